@@ -1,0 +1,90 @@
+-- A lawful head has numbers of 16 bits, and no other has the same.
+use mathlib.Core.Path.{_≡_, refl, ap}
+use mathlib.Core.HLevel.{isProp→PathP}
+use mathlib.Core.Bool.{true}
+use Prim.Native.Nat.{ℕ, _≤_, _<_}
+use native.Mathlib.Omega.{arith}
+use denote.Struct.Props.{props}
+use Rattle.std.proofs.shelf.Tests.{and-parts, leb-true, eqb-true, false≢true}
+use Rattle.sheet.specs.Heads.{numbersOf}
+use Rattle.sheet.specs.Types.{is, within, lawful, lawfulSizes, areaWithin, isInteger, kindNumber, shapeNumber, sizeNumber, formNumber}
+use Rattle.sheet.specs.declared.head.Head.{Head}
+use Rattle.sheet.specs.declared.kinds.Form.{Form}
+use Rattle.sheet.specs.declared.kinds.Kind.{Kind}
+use Rattle.sheet.specs.declared.kinds.Shape.{Shape}
+use Rattle.sheet.specs.declared.kinds.Shape.the-variants.{Scalar, Vector, Matrix, Interval}
+use Rattle.sheet.specs.declared.kinds.Size.{Size}
+use Rattle.sheet.specs.declared.kinds.Size.the-variants.{Open, Known}
+use Rattle.sheet.specs.declared.typing.Typing.{Typing}
+use Rattle.sheet.proofs.Back.{Small}
+
+-- a size of a lawful head
+abbrev Bounded : Size → Type 0
+Bounded Open = Unit {0}
+Bounded (Known n) = n ≤ 1024
+
+from-within : (w : ℕ) (r : Size) → w ≤ 1024 → within w r ≡ true → Bounded r
+from-within w Open h e = tt
+from-within w (Known n) h e = omega (arith, leb-true n w e)
+
+from-is : (n : ℕ) (r : Size) → n ≤ 1024 → is n r ≡ true → Bounded r
+from-is n Open h e = tt
+from-is n (Known m) h e = omega (arith, eqb-true m n e)
+
+bounded : (w : ℕ) (k : Kind) (sh : Shape) (r s : Size) → w ≤ 1024 → lawfulSizes w k sh r s ≡ true → Bounded r × Bounded s
+bounded w k Scalar r s h e = let p = and-parts (is 1 r) (is 1 s) e in (from-is 1 r (omega arith) (p .0), from-is 1 s (omega arith) (p .1))
+bounded w k Vector r s h e = let p = and-parts (is 1 r) (within w s) e in (from-is 1 r (omega arith) (p .0), from-within w s h (p .1))
+bounded w k Matrix r s h e = let p = and-parts _ (areaWithin w r s) e in let q = and-parts (within w r) (within w s) (p .0) in (from-within w r h (q .0), from-within w s h (q .1))
+bounded w k Interval r s h e = let p = and-parts _ (is 2 s) e in let q = and-parts (isInteger k) (is 1 r) (p .0) in (from-is 1 r (omega arith) (q .1), from-is 2 s (omega arith) (p .1))
+
+size-small : (r : Size) → Bounded r → sizeNumber r < 65536
+size-small Open h = omega arith
+size-small (Known n) h = omega arith
+
+kind-small : (k : Kind) → kindNumber k < 65536
+kind-small k = grind arith
+
+shape-small : (s : Shape) → shapeNumber s < 65536
+shape-small s = grind arith
+
+form-small : (f : Form) → formNumber f < 65536
+form-small f = grind arith
+
+kind-same : (a b : Kind) → kindNumber a ≡ kindNumber b → a ≡ b
+kind-same a b e = grind arith
+
+shape-same : (a b : Shape) → shapeNumber a ≡ shapeNumber b → a ≡ b
+shape-same a b e = grind arith
+
+form-same : (a b : Form) → formNumber a ≡ formNumber b → a ≡ b
+form-same a b e = grind arith
+
+size-same : (a b : Size) → Bounded a → Bounded b → sizeNumber a ≡ sizeNumber b → a ≡ b
+size-same Open Open p q e = refl
+size-same Open (Known n) p q e = absurd (omega arith)
+size-same (Known m) Open p q e = absurd (omega arith)
+size-same (Known m) (Known n) p q e = ap Known e
+
+sizes : (h : Head) → Bounded (h .result .r) × Bounded (h .result .s)
+sizes h = bounded (h .width) (h .result .kind) (h .result .shape) (h .result .r) (h .result .s) (h .high) (h .lawful)
+
+pub head-small : (h : Head) → Small (numbersOf h)
+head-small h = record { width = omega (arith, h .high); kind = kind-small (h .result .kind); shape = shape-small (h .result .shape); r = size-small (h .result .r) (sizes h .0); s = size-small (h .result .s) (sizes h .1); form = form-small (h .form) }
+
+pub heads-same : (h g : Head) → numbersOf h ≡ numbersOf g → h ≡ g
+heads-same h g e =
+    let width : h .width ≡ g .width = ap (λ n. n .width) e in
+    let kind : h .result .kind ≡ g .result .kind = kind-same (h .result .kind) (g .result .kind) (ap (λ n. n .kind) e) in
+    let shape : h .result .shape ≡ g .result .shape = shape-same (h .result .shape) (g .result .shape) (ap (λ n. n .shape) e) in
+    let r : h .result .r ≡ g .result .r = size-same (h .result .r) (g .result .r) (sizes h .0) (sizes g .0) (ap (λ n. n .r) e) in
+    let s : h .result .s ≡ g .result .s = size-same (h .result .s) (g .result .s) (sizes h .1) (sizes g .1) (ap (λ n. n .s) e) in
+    let result : h .result ≡ g .result = λ i. record { kind = kind i; shape = shape i; r = r i; s = s i } in
+    let form : h .form ≡ g .form = form-same (h .form) (g .form) (ap (λ n. n .form) e) in
+    λ i. record {
+      width = width i;
+      result = result i;
+      form = form i;
+      low = isProp→PathP (λ j. 2 ≤ width j) (λ j. search props) (h .low) (g .low) i;
+      high = isProp→PathP (λ j. width j ≤ 1024) (λ j. search props) (h .high) (g .high) i;
+      lawful = isProp→PathP (λ j. lawful (width j) (result j) ≡ true) (λ j. search props) (h .lawful) (g .lawful) i;
+    }

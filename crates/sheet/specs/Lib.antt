@@ -1,0 +1,10 @@
+pub mod Bytes
+pub mod Rows
+pub mod Types
+pub mod Heads
+pub mod Rooms
+pub mod Refusals
+pub mod Trailers
+pub mod Files
+pub mod Answers
+pub mod Trips
