@@ -42,13 +42,22 @@ pub impl fmt::Display for Refusal as RefusalDisplay {
     fn fmt<W: fmt::Write>(&self, f: &mut fmt::Formatter<W>) -> fmt::Result {
         match *self {
             Refusal::NotASheet => {
-                write!(f, "not a sheet, which has at least 20 bytes and ends in the mark 0x5047")
+                write!(
+                    f,
+                    "not a sheet, which has at least 20 bytes and ends in the mark 0x5047"
+                )
             }
             Refusal::BadLayout => {
-                write!(f, "not laid out as a note of at most 4096 bytes, 1 to 512 rows and the trailer")
+                write!(
+                    f,
+                    "not laid out as a note of at most 4096 bytes, 1 to 512 rows and the trailer"
+                )
             }
             Refusal::BadHead => {
-                write!(f, "no lawful head: the form is 1, the width 2 to 1024, and the result's type fits the width")
+                write!(
+                    f,
+                    "no lawful head: the form is 1, the width 2 to 1024, and the result's type fits the width"
+                )
             }
             Refusal::NoRoom => write!(f, "the memory brought is too short"),
         }

@@ -11,7 +11,12 @@ use words::ListingDisplay;
 
 const FILE: &str = "sheet.gps";
 
-fn list<'a>(rt: &LibcRuntime, file: &[u8], draft: &'a Draft, note: &'a [u8]) -> Result<(), AnyError> {
+fn list<'a>(
+    rt: &LibcRuntime,
+    file: &[u8],
+    draft: &'a Draft,
+    note: &'a [u8],
+) -> Result<(), AnyError> {
     let listing = Listing {
         note,
         head: draft.head(),
