@@ -7,15 +7,15 @@ use native.Mathlib.Omega.{arith}
 use denote.Struct.Props.{props}
 use Rattle.std.proofs.shelf.Tests.{and-parts, leb-true, eqb-true, false≢true}
 use Rattle.sheet.specs.Heads.{numbersOf}
-use Rattle.sheet.specs.Types.{is, within, lawful, lawfulSizes, areaWithin, isInteger, kindNumber, shapeNumber, sizeNumber, formNumber}
+use Rattle.types.specs.Types.{is, within, lawful, lawfulSizes, areaWithin, isInteger, kindNumber, shapeNumber, sizeNumber, formNumber}
 use Rattle.sheet.specs.declared.head.Head.{Head}
-use Rattle.sheet.specs.declared.kinds.Form.{Form}
-use Rattle.sheet.specs.declared.kinds.Kind.{Kind}
-use Rattle.sheet.specs.declared.kinds.Shape.{Shape}
-use Rattle.sheet.specs.declared.kinds.Shape.the-variants.{Scalar, Vector, Matrix, Interval}
-use Rattle.sheet.specs.declared.kinds.Size.{Size}
-use Rattle.sheet.specs.declared.kinds.Size.the-variants.{Open, Known}
-use Rattle.sheet.specs.declared.typing.Typing.{Typing}
+use Rattle.types.specs.declared.kinds.Form.{Form}
+use Rattle.types.specs.declared.kinds.Kind.{Kind}
+use Rattle.types.specs.declared.kinds.Shape.{Shape}
+use Rattle.types.specs.declared.kinds.Shape.the-variants.{Scalar, Vector, Matrix, Interval}
+use Rattle.types.specs.declared.kinds.Size.{Size}
+use Rattle.types.specs.declared.kinds.Size.the-variants.{Open, Known}
+use Rattle.types.specs.declared.typing.Typing.{Typing}
 use Rattle.sheet.proofs.Back.{Small}
 
 -- a size of a lawful head

@@ -1,5 +1,5 @@
 -- The numbers of a head.
-use Rattle.sheet.specs.Types.{kindNumber, shapeNumber, sizeNumber, formNumber}
+use Rattle.types.specs.Types.{kindNumber, shapeNumber, sizeNumber, formNumber}
 use Rattle.sheet.specs.declared.head.Head.{Head}
 use Rattle.sheet.specs.declared.head.HeadNumbers.{HeadNumbers}
 

@@ -1,6 +1,5 @@
 pub mod Bytes
 pub mod Rows
-pub mod Types
 pub mod Heads
 pub mod Rooms
 pub mod Refusals

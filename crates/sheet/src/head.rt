@@ -2,13 +2,13 @@
 ghost use Prim.Native.Nat.{_≤_};
 ghost use mathlib.Core.Bool.{true};
 ghost use mathlib.Core.Path.{_≡_};
-ghost use Rattle.sheet.specs.Types.{lawful as lawfulType};
-use crate::kinds::Form;
-use crate::kinds::FormDebug;
-use crate::kinds::FormPartialEq;
-use crate::typing::Typing;
-use crate::typing::TypingDebug;
-use crate::typing::TypingPartialEq;
+ghost use Rattle.types.specs.Types.{lawful as lawfulType};
+use types::Form;
+use types::FormDebug;
+use types::FormPartialEq;
+use types::Typing;
+use types::TypingDebug;
+use types::TypingPartialEq;
 
 /// A lawful head. No value of the sheet has more elements than `width`, which is 2 to 1,024.
 #[derive(Clone, Copy, Debug, PartialEq)]

@@ -4,11 +4,11 @@ ghost use Rattle.std.specs.Options.{Cases as BySome};
 ghost use Rattle.sheet.specs.Heads.{numbersOf};
 use crate::head::Head;
 use crate::head::HeadNumbers;
-use crate::kinds::Form;
-use crate::kinds::Kind;
-use crate::kinds::Shape;
-use crate::kinds::Size;
-use crate::typing::Typing;
+use types::Form;
+use types::Kind;
+use types::Shape;
+use types::Size;
+use types::Typing;
 
 const MIN_WIDTH: u16 = 2;
 

@@ -1,6 +1,6 @@
 //! The type of a value, as far as it is known.
 ghost use mathlib.Core.Path.{_≡_};
-ghost use Rattle.sheet.specs.Types.{within as withinWidth, areaWithin, lawful};
+ghost use Rattle.types.specs.Types.{within as withinWidth, areaWithin, lawful};
 use crate::kinds::Kind;
 use crate::kinds::KindDebug;
 use crate::kinds::KindPartialEq;

@@ -2,15 +2,15 @@
 use mathlib.Core.Bool.{Bool, true, false, cond, _&&_}
 use Prim.Native.Nat.{ℕ, _*_}
 use lib.Dec.{eqb, leb}
-use Rattle.sheet.specs.declared.kinds.Form.{Form}
-use Rattle.sheet.specs.declared.kinds.Form.the-variants.{First}
-use Rattle.sheet.specs.declared.kinds.Kind.{Kind}
-use Rattle.sheet.specs.declared.kinds.Kind.the-variants.{Boolean, Character, Integer}
-use Rattle.sheet.specs.declared.kinds.Shape.{Shape}
-use Rattle.sheet.specs.declared.kinds.Shape.the-variants.{Scalar, Vector, Matrix, Interval}
-use Rattle.sheet.specs.declared.kinds.Size.{Size}
-use Rattle.sheet.specs.declared.kinds.Size.the-variants.{Open, Known}
-use Rattle.sheet.specs.declared.typing.Typing.{Typing}
+use Rattle.types.specs.declared.kinds.Form.{Form}
+use Rattle.types.specs.declared.kinds.Form.the-variants.{First}
+use Rattle.types.specs.declared.kinds.Kind.{Kind}
+use Rattle.types.specs.declared.kinds.Kind.the-variants.{Boolean, Character, Integer}
+use Rattle.types.specs.declared.kinds.Shape.{Shape}
+use Rattle.types.specs.declared.kinds.Shape.the-variants.{Scalar, Vector, Matrix, Interval}
+use Rattle.types.specs.declared.kinds.Size.{Size}
+use Rattle.types.specs.declared.kinds.Size.the-variants.{Open, Known}
+use Rattle.types.specs.declared.typing.Typing.{Typing}
 
 abbrev pub kindNumber : Kind → ℕ
 kindNumber Boolean = 1

@@ -2,7 +2,7 @@
 ghost use Prim.Native.Nat.{ℕ};
 ghost use mathlib.Core.Path.{_≡_};
 ghost use Rattle.std.specs.Options.{Cases as BySome};
-ghost use Rattle.sheet.specs.Types.{kindNumber, shapeNumber, sizeNumber, formNumber, sizeOf};
+ghost use Rattle.types.specs.Types.{kindNumber, shapeNumber, sizeNumber, formNumber, sizeOf};
 
 /// What the elements of a value are.
 #[derive(Clone, Copy, Debug, PartialEq)]
