@@ -5,14 +5,14 @@ use mathlib.Core.Bool.{true}
 use Prim.Native.Nat.{ℕ, _≤_, _<_}
 use native.Mathlib.Omega.{arith}
 use denote.Struct.Props.{props}
-use Rattle.std.proofs.shelf.Tests.{and-parts, leb-true, eqb-true, false≢true}
+use Rattle.std.proofs.shelf.Tests.{and-parts, leb-true, false≢true}
 use Rattle.sheet.specs.Heads.{numbersOf}
-use Rattle.types.specs.Types.{is, within, lawful, lawfulSizes, areaWithin, isInteger, kindNumber, shapeNumber, sizeNumber, formNumber}
+use Rattle.types.specs.Types.{within, areaWithin, kindNumber, shapeNumber, sizeNumber, formNumber}
+use Rattle.types.specs.Typings.{lawful, typeFits}
 use Rattle.sheet.specs.declared.head.Head.{Head}
 use Rattle.types.specs.declared.kinds.Form.{Form}
 use Rattle.types.specs.declared.kinds.Kind.{Kind}
 use Rattle.types.specs.declared.kinds.Shape.{Shape}
-use Rattle.types.specs.declared.kinds.Shape.the-variants.{Scalar, Vector, Matrix, Interval}
 use Rattle.types.specs.declared.kinds.Size.{Size}
 use Rattle.types.specs.declared.kinds.Size.the-variants.{Open, Known}
 use Rattle.types.specs.declared.typing.Typing.{Typing}
@@ -27,15 +27,12 @@ from-within : (w : ℕ) (r : Size) → w ≤ 1024 → within w r ≡ true → Bo
 from-within w Open h e = tt
 from-within w (Known n) h e = omega (arith, leb-true n w e)
 
-from-is : (n : ℕ) (r : Size) → n ≤ 1024 → is n r ≡ true → Bounded r
-from-is n Open h e = tt
-from-is n (Known m) h e = omega (arith, eqb-true m n e)
-
-bounded : (w : ℕ) (k : Kind) (sh : Shape) (r s : Size) → w ≤ 1024 → lawfulSizes w k sh r s ≡ true → Bounded r × Bounded s
-bounded w k Scalar r s h e = let p = and-parts (is 1 r) (is 1 s) e in (from-is 1 r (omega arith) (p .0), from-is 1 s (omega arith) (p .1))
-bounded w k Vector r s h e = let p = and-parts (is 1 r) (within w s) e in (from-is 1 r (omega arith) (p .0), from-within w s h (p .1))
-bounded w k Matrix r s h e = let p = and-parts _ (areaWithin w r s) e in let q = and-parts (within w r) (within w s) (p .0) in (from-within w r h (q .0), from-within w s h (q .1))
-bounded w k Interval r s h e = let p = and-parts _ (is 2 s) e in let q = and-parts (isInteger k) (is 1 r) (p .0) in (from-is 1 r (omega arith) (q .1), from-is 2 s (omega arith) (p .1))
+bounded : (w : ℕ) (t : Typing) → w ≤ 1024 → lawful w t ≡ true → Bounded (t .r) × Bounded (t .s)
+bounded w t h e =
+    let p = and-parts (typeFits (t .kind) (t .shape) (t .r) (t .s)) _ e in
+    let q = and-parts (within w (t .r)) _ (p .1) in
+    let z = and-parts (within w (t .s)) (areaWithin w (t .r) (t .s)) (q .1) in
+    (from-within w (t .r) h (q .0), from-within w (t .s) h (z .0))
 
 size-small : (r : Size) → Bounded r → sizeNumber r < 65536
 size-small Open h = omega arith
@@ -66,7 +63,7 @@ size-same (Known m) Open p q e = absurd (omega arith)
 size-same (Known m) (Known n) p q e = ap Known e
 
 sizes : (h : Head) → Bounded (h .result .r) × Bounded (h .result .s)
-sizes h = bounded (h .width) (h .result .kind) (h .result .shape) (h .result .r) (h .result .s) (h .high) (h .lawful)
+sizes h = bounded (h .width) (h .result) (h .high) (h .lawful)
 
 pub head-small : (h : Head) → Small (numbersOf h)
 head-small h = record { width = omega (arith, h .high); kind = kind-small (h .result .kind); shape = shape-small (h .result .shape); r = size-small (h .result .r) (sizes h .0); s = size-small (h .result .s) (sizes h .1); form = form-small (h .form) }

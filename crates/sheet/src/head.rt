@@ -2,7 +2,7 @@
 ghost use Prim.Native.Nat.{_≤_};
 ghost use mathlib.Core.Bool.{true};
 ghost use mathlib.Core.Path.{_≡_};
-ghost use Rattle.types.specs.Types.{lawful as lawfulType};
+ghost use Rattle.types.specs.Typings.{lawful as lawfulType};
 use types::Form;
 use types::FormDebug;
 use types::FormPartialEq;

@@ -2,7 +2,7 @@
 ghost use Prim.Native.Nat.{ℕ};
 ghost use mathlib.Core.Path.{_≡_};
 ghost use Rattle.std.specs.Options.{Cases as BySome};
-ghost use Rattle.types.specs.Types.{kindNumber, shapeNumber, sizeNumber, formNumber, sizeOf};
+ghost use Rattle.types.specs.Types.{kindNumber, shapeNumber, sizeNumber, formNumber, kindOf, shapeOf, sameKind, sameShape, written};
 
 /// What the elements of a value are.
 #[derive(Clone, Copy, Debug, PartialEq)]
@@ -48,7 +48,8 @@ impl Kind {
 
     /// The kind that has this number, if one has.
     pub fn from_number(n: u16) -> Option<Kind>
-        ensures { λ r. ⌜ BySome r ((k : Kind) → kindNumber k ≡ n → ⊥) (λ k. kindNumber k ≡ n) ⌝ }
+        ensures value { λ r. ⌜ r ≡ kindOf n ⌝ }
+        ensures exact { λ r. ⌜ BySome r ((k : Kind) → kindNumber k ≡ n → ⊥) (λ k. kindNumber k ≡ n) ⌝ }
     {
         match n {
             1 => Some(Kind::Boolean),
@@ -56,6 +57,13 @@ impl Kind {
             3 => Some(Kind::Integer),
             _ => None,
         }
+    }
+
+    /// Whether the two are one kind.
+    pub fn same(self, other: Kind) -> bool
+        ensures { λ r. ⌜ r ≡ sameKind self other ⌝ }
+    {
+        self.number() == other.number()
     }
 }
 
@@ -74,7 +82,8 @@ impl Shape {
 
     /// The shape that has this number, if one has.
     pub fn from_number(n: u16) -> Option<Shape>
-        ensures { λ r. ⌜ BySome r ((k : Shape) → shapeNumber k ≡ n → ⊥) (λ k. shapeNumber k ≡ n) ⌝ }
+        ensures value { λ r. ⌜ r ≡ shapeOf n ⌝ }
+        ensures exact { λ r. ⌜ BySome r ((k : Shape) → shapeNumber k ≡ n → ⊥) (λ k. shapeNumber k ≡ n) ⌝ }
     {
         match n {
             1 => Some(Shape::Scalar),
@@ -83,6 +92,13 @@ impl Shape {
             4 => Some(Shape::Interval),
             _ => None,
         }
+    }
+
+    /// Whether the two are one shape.
+    pub fn same(self, other: Shape) -> bool
+        ensures { λ r. ⌜ r ≡ sameShape self other ⌝ }
+    {
+        self.number() == other.number()
     }
 }
 
@@ -99,7 +115,7 @@ impl Size {
 
     /// The size that this number stands for.
     pub fn from_number(n: u16) -> Size
-        ensures { λ r. ⌜ r ≡ sizeOf n ⌝ }
+        ensures { λ r. ⌜ r ≡ written n ⌝ }
     {
         match n {
             65535 => Size::Open,

@@ -1,5 +1,6 @@
 //! Kinds, shapes and sizes: what a value may be, and what is known of one before a sheet runs.
 mod kinds;
+mod sizes;
 mod typing;
 
 pub use kinds::Form;
