@@ -1,0 +1,4 @@
+pub mod Casts
+pub mod Exact
+pub mod Faults
+pub mod Truths

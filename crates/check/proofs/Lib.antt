@@ -1,0 +1,9 @@
+pub mod Stacks
+pub mod Near
+pub mod Passes
+pub mod Checks
+pub mod Unique
+pub mod Intervals
+pub mod Typings
+pub mod Structures
+pub mod Drafts
