@@ -133,6 +133,6 @@ fn statement(row: &Row) -> Option<&'static str> {
 }
 
 /// The template for a row, if its code has a meaning and the kinds and operators that it names exist.
-pub fn template(row: &Row) -> Option<&'static str> {
+pub(crate) fn template(row: &Row) -> Option<&'static str> {
     expression(row).or(statement(row))
 }
