@@ -1,4 +1,5 @@
 pub mod Casts
 pub mod Exact
 pub mod Faults
+pub mod Laws
 pub mod Truths

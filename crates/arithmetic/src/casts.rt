@@ -1,7 +1,5 @@
 //! Casts between booleans, characters and integers.
-ghost use mathlib.Core.Bool.{Bool};
 ghost use mathlib.Core.Path.{_≡_};
-ghost use lib.IntN.{ℤ};
 ghost use Rattle.arithmetic.specs.Casts.{nonzero, oneOrZero, lowByte};
 use crate::operators::Function;
 
@@ -10,6 +8,7 @@ pub trait CastTo<Y>: Copy {
     /// What a value is as a Y.
     ghost casts: { Self → Y };
 
+    /// The value as a Y.
     fn cast(self) -> Y
         ensures { λ r. ⌜ r ≡ casts self ⌝ };
 }

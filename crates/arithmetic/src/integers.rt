@@ -1,9 +1,6 @@
 //! Operators on integers: the exact result, or the fault that says why there is none.
 ghost use mathlib.Core.Path.{_≡_};
-ghost use lib.IntN.{ℤ, negsuc};
-ghost use Rattle.std.specs.declared.result.Result.{Result};
-ghost use Rattle.arithmetic.specs.declared.faults.ArithmeticFault.{ArithmeticFault};
-ghost use Rattle.arithmetic.specs.Exact.{exact, added, subtracted, multiplied, divided, remains, raised, negated};
+ghost use Rattle.arithmetic.specs.Exact.{bounded, exact, added, subtracted, multiplied, divided, remains, raised, negated};
 use crate::faults::ArithmeticFault;
 use crate::operators::Function;
 use crate::operators::Operator;
@@ -19,6 +16,19 @@ pub enum Arithmetic {
     Power,
 }
 
+/// The integer, if it fits 32 bits.
+fn narrow(wide: i64) -> Result<i32, ArithmeticFault>
+    ensures { λ r. ⌜ r ≡ bounded wide ⌝ }
+{
+    if wide < i32::MIN as i64 {
+        return Err(ArithmeticFault::Overflow);
+    }
+    if wide > i32::MAX as i64 {
+        return Err(ArithmeticFault::Overflow);
+    }
+    Ok(wide as i32)
+}
+
 /// `x + y`.
 #[derive(Clone, Copy)]
 pub struct Sum;
@@ -27,7 +37,7 @@ pub impl Operator<i32, Result<i32, ArithmeticFault>> for Sum as SumOperator {
     ghost gives = { λ _. added };
 
     fn apply(&self, x: i32, y: i32) -> Result<i32, ArithmeticFault> {
-        x.checked_add(y).ok_or(ArithmeticFault::Overflow)
+        narrow(x as i64 + y as i64)
     }
 }
 
@@ -39,7 +49,7 @@ pub impl Operator<i32, Result<i32, ArithmeticFault>> for Difference as Differenc
     ghost gives = { λ _. subtracted };
 
     fn apply(&self, x: i32, y: i32) -> Result<i32, ArithmeticFault> {
-        x.checked_sub(y).ok_or(ArithmeticFault::Overflow)
+        narrow(x as i64 - y as i64)
     }
 }
 
@@ -51,7 +61,7 @@ pub impl Operator<i32, Result<i32, ArithmeticFault>> for Product as ProductOpera
     ghost gives = { λ _. multiplied };
 
     fn apply(&self, x: i32, y: i32) -> Result<i32, ArithmeticFault> {
-        x.checked_mul(y).ok_or(ArithmeticFault::Overflow)
+        narrow(x as i64 * y as i64)
     }
 }
 
@@ -127,6 +137,6 @@ pub impl Function<i32, Result<i32, ArithmeticFault>> for Negative as NegativeFun
     ghost gives = { λ _. negated };
 
     fn apply(&self, x: i32) -> Result<i32, ArithmeticFault> {
-        x.checked_neg().ok_or(ArithmeticFault::Overflow)
+        narrow(-(x as i64))
     }
 }

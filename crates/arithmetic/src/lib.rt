@@ -2,5 +2,6 @@
 pub mod casts;
 pub mod faults;
 pub mod integers;
+pub mod laws;
 pub mod operators;
 pub mod truths;

@@ -1,9 +1,8 @@
 //! Operators whose result is a boolean: the orders of integers, and the logic of booleans.
-ghost use mathlib.Core.Bool.{Bool, not, _&&_, _||_};
+ghost use mathlib.Core.Bool.{not};
 ghost use mathlib.Core.Path.{_≡_};
-ghost use lib.IntN.{ℤ};
 ghost use lib.Signed.{ltZ, leZ};
-ghost use Rattle.arithmetic.specs.Truths.{above, atLeast, xor, ordered, decided};
+ghost use Rattle.arithmetic.specs.Truths.{above, atLeast, ordered, decided};
 use crate::operators::Function;
 use crate::operators::Operator;
 

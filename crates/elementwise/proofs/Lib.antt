@@ -1,0 +1,5 @@
+pub mod Along
+pub mod Collects
+pub mod Grids
+pub mod Matrices
+pub mod Sums

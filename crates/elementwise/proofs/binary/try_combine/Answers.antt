@@ -1,0 +1,21 @@
+use mathlib.Core.Path.{refl}
+use native.Mathlib.Omega.{arith}
+use lib.ListN.{take}
+use Rattle.elementwise.proofs.Along.{place-part, along-two}
+use Rattle.elementwise.proofs.Collects.{wrote-as}
+use Rattle.elementwise.proofs.binary.try_combine.Needs as need
+
+pub write-requires : need.write-requires
+write-requires g c κs =
+    let a = c .args in
+    record {
+      within = c .pre .within;
+      reads = λ k h. (place-part (a .table .now) (a .a) (a .to) (a .n) k (omega arith) (c .pre .left) h, place-part (a .table .now) (a .b) (a .to) (a .n) k (omega arith) (c .pre .right) h);
+    }
+
+pub returns : need.returns
+returns g c =
+    let a = c .args in
+    wrote-as (a .table .now) (a .to) (a .n) (c .write .result) (c .write .last .table)
+    (along-two (g .E·Element .null) (a .table .now) (take (a .to) (a .table .now)) (a .to) (a .n) (omega arith) refl (g .F·Operator .gives (a .op)) (a .a) (a .b) (c .pre .left) (c .pre .right))
+    (c .write .ensures)

@@ -1,0 +1,16 @@
+pub mod Booleans
+pub mod Bounds
+pub mod Characters
+pub mod Integers
+pub mod Letters
+pub mod Lines
+pub mod Making
+pub mod Numerals
+pub mod Reads
+pub mod Records
+pub mod Refusals
+pub mod States
+pub mod Taking
+pub mod Texts
+pub mod Waiting
+pub mod Words

@@ -1,0 +1,34 @@
+//! Where a sheet's input comes from: sources of bytes, and the values that are read from them.
+mod letter;
+mod line;
+mod numeral;
+mod reader;
+mod recorder;
+mod refusal;
+mod source;
+mod state;
+mod text;
+mod words;
+
+pub use crate::reader::read_boolean;
+pub use crate::reader::read_character;
+pub use crate::reader::read_integer;
+pub use crate::recorder::Recorder;
+pub use crate::recorder::RecorderSource;
+pub use crate::refusal::SourceRefusal;
+pub use crate::refusal::SourceRefusalDebug;
+pub use crate::refusal::SourceRefusalDisplay;
+pub use crate::refusal::SourceRefusalEq;
+pub use crate::refusal::SourceRefusalPartialEq;
+pub use crate::source::Source;
+pub use crate::state::ReadValue;
+pub use crate::state::ReadValueClone;
+pub use crate::state::ReadValueDebug;
+pub use crate::state::ReadValueEq;
+pub use crate::state::ReadValuePartialEq;
+pub use crate::state::StreamState;
+pub use crate::state::StreamStateDebug;
+pub use crate::state::StreamStateEq;
+pub use crate::state::StreamStatePartialEq;
+pub use crate::text::Text;
+pub use crate::text::TextSource;
