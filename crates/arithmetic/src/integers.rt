@@ -37,7 +37,7 @@ pub impl Operator<i32, Result<i32, ArithmeticFault>> for Sum as SumOperator {
     ghost gives = { λ _. added };
 
     fn apply(&self, x: i32, y: i32) -> Result<i32, ArithmeticFault> {
-        narrow(x as i64 + y as i64)
+        x.checked_add(y).ok_or(ArithmeticFault::Overflow)
     }
 }
 
@@ -49,7 +49,7 @@ pub impl Operator<i32, Result<i32, ArithmeticFault>> for Difference as Differenc
     ghost gives = { λ _. subtracted };
 
     fn apply(&self, x: i32, y: i32) -> Result<i32, ArithmeticFault> {
-        narrow(x as i64 - y as i64)
+        x.checked_sub(y).ok_or(ArithmeticFault::Overflow)
     }
 }
 

@@ -16,16 +16,22 @@ pub trait Element: Copy {
     /// How many bytes the longest text of an element has.
     const LONGEST: usize;
 
+    // which element the null is
     ghost null: { Self };
 
+    // how many bytes the longest text has
     ghost longest: { ℕ };
 
+    // the kind of such elements
     ghost kindOf: { Kind };
 
+    // the bytes that an element prints as
     ghost text: { Self → List ℕ };
 
+    // so that lengths of texts can be added up
     ghost narrow: { longest ≤ 255 };
 
+    // no text is longer than the longest
     ghost brief: { (x : Self) → length (text x) ≤ longest };
 
     /// Hands out `NULL`, so that generic code knows which element it is.

@@ -1,5 +1,4 @@
-//! Elements picked and stored by indices, and the first index that is outside.
-use crate::show::show_matrix;
+//! Elements of vectors picked by indices, and the first index that is outside.
 use crate::show::show_vector;
 use element::BooleanElement;
 use element::IntegerElement;
@@ -10,7 +9,6 @@ use picks::Outside;
 use picks::Within;
 use picks::WithinIntegers;
 use picks::pick;
-use picks::pick_matrix;
 use std::error::AnyError;
 
 /// Shows the cells, or which index was outside.
@@ -105,70 +103,4 @@ pub fn beside(rt: &LibcRuntime) -> Result<(), AnyError> {
         show_vector(rt, "[T F] at [2 2 1]", &flags, 3, 3)?;
     }
     Ok(())
-}
-
-/// Shows a matrix, or which index was outside.
-fn show_matrix_or(
-    rt: &LibcRuntime,
-    name: &str,
-    answer: Result<(), Outside>,
-    table: &[i32],
-    at: usize,
-    r: usize,
-    s: usize,
-) -> Result<(), AnyError> {
-    if let Err(outside) = answer {
-        println!(rt, "{name}: index {} is outside", outside.place)?;
-        return Ok(());
-    }
-    show_matrix(rt, name, table, at, r, s)
-}
-
-pub fn matrices(rt: &LibcRuntime) -> Result<(), AnyError> {
-    let mut table: [i32; 14] = [1, 2, 3, 4, 5, 6, 2, 1, 3, 1, 0, 0, 0, 0];
-    let rows = Index::Cells { at: 6, count: 2 };
-    let answer = pick_matrix(
-        &mut table,
-        0,
-        2,
-        3,
-        &Within,
-        rows,
-        Index::Cells { at: 8, count: 2 },
-        10,
-    );
-    show_matrix_or(rt, "rows [2 1], columns [3 1]", answer, &table, 10, 2, 2)?;
-    let answer = pick_matrix(
-        &mut table,
-        0,
-        2,
-        3,
-        &Within,
-        rows,
-        Index::Interval { low: 2, high: 3 },
-        10,
-    );
-    show_matrix_or(rt, "rows [2 1], columns 2..3", answer, &table, 10, 2, 2)?;
-    let answer = pick_matrix(
-        &mut table,
-        0,
-        2,
-        3,
-        &Within,
-        Index::Interval { low: 2, high: 3 },
-        rows,
-        10,
-    );
-    show_matrix_or(rt, "rows 2..3, columns [2 1]", answer, &table, 10, 2, 2)?;
-    let answer = pick_matrix(
-        &mut table,
-        0,
-        2,
-        3,
-        &Within,
-        rows,
-        Index::Interval { low: 3, high: 4 },
-        10,
-    );
-    show_matrix_or(rt, "rows [2 1], columns 3..4", answer, &table, 10, 2, 2)
 }

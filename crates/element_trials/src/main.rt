@@ -1,5 +1,6 @@
 //! A table of cases: printing, and every operation on cells. The expected lines were worked by hand.
 mod choosing;
+mod crossing;
 mod moving;
 mod printing;
 mod show;
@@ -18,7 +19,8 @@ fn main(rt: LibcRuntime) -> Result<(), AnyError> {
     moving::comparisons(&rt)?;
     choosing::vectors(&rt)?;
     choosing::beside(&rt)?;
-    choosing::matrices(&rt)?;
+    crossing::matrices(&rt)?;
+    crossing::intervals(&rt)?;
     storing::vectors(&rt)?;
     storing::matrices(&rt)
 }

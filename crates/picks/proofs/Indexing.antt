@@ -3,8 +3,10 @@ use mathlib.Core.Path.{_≡_, refl, sym, ap, subst, _∙_}
 use mathlib.Core.Bool.{Bool, true, false, not, cond}
 use mathlib.Core.Logic.{⊎-elim}
 use mathlib.Core.List.{List, [], _∷_}
-use Prim.Native.Nat.{ℕ, zero, suc, _+_, _-_, _≤_, _<_}
+use Prim.Native.Nat.{ℕ, zero, suc, _+_, _-_, _*_, _≤_, _<_}
 use native.Mathlib.Omega.{arith}
+use Rattle.element.specs.Steps.{stepCount, stepped}
+use Rattle.element.proofs.Stepping.{step-within}
 use lib.IntN.{ℤ, pos, negsuc, _+ℤ_}
 use lib.ListN.{length, getD, take, drop}
 use Rattle.std.specs.declared.option.Option.{Option}
@@ -114,3 +116,18 @@ pub outside-columns : (r s : ℕ) (is js : List ℤ) (m n : ℕ) (o : Option ℕ
 outside-columns r s is js m n o e h l is′ =
     let k : m ≡ length is = omega arith in
     is′ ∙ ap (λ (i : ℕ). firstOutside (i + 1) s js) k ∙ ap (λ (x : Option ℕ). orElse x (firstOutside (length is + 1) s js)) e
+
+-- every b-th integer of an interval
+module _ (low high : ℤ) (b : ℕ) where
+  pub length-between : length (between low high) ≡ spanned low high
+  length-between = length-map-counting (λ k. low +ℤ pos k) 0 (spanned low high)
+
+  pub length-step-between : length (stepped (pos 0) b (between low high)) ≡ stepCount (spanned low high) b
+  length-step-between = length-map-counting _ 0 (stepCount (length (between low high)) b) ∙ ap (λ (m : ℕ). stepCount m b) length-between
+
+  pub getD-step-between : (k : ℕ) (d : ℤ) → 0 < b → k < stepCount (spanned low high) b → getD (stepped (pos 0) b (between low high)) k d ≡ low +ℤ pos (k * b)
+  getD-step-between k d some l =
+      let i : k * b < spanned low high = step-within (spanned low high) b k some l in
+      let j : k < stepCount (length (between low high)) b = rw length-between l in
+      getD-map-counting (λ k. getD (between low high) (k * b) (pos 0)) 0 (stepCount (length (between low high)) b) k k d j (omega arith)
+      ∙ getD-map-counting (λ k. low +ℤ pos k) 0 (spanned low high) (k * b) (k * b) (pos 0) i (omega arith)

@@ -15,10 +15,13 @@ use element::Element;
 
 /// Where the integer table is, seen from a table of elements of type E.
 pub trait Integers<E> {
+    // the integers, where the table at work holds these elements
     ghost seen: { Self → List E → List ℤ };
 
+    // integers stay where the cells of the table at work stay
     ghost kept: { (s : Self) (T S : List E) (at n : ℕ) → cells S at n ≡ cells T at n → cells (seen s S) at n ≡ cells (seen s T) at n };
 
+    // there are as many integers as long as the table keeps its length
     ghost long: { (s : Self) (T S : List E) → length S ≡ length T → length (seen s S) ≡ length (seen s T) };
 
     /// The integer in the cell k behind `at`.
