@@ -10,7 +10,7 @@ use arithmetic::casts::IntegerToCharacter;
 use std::io;
 
 /// Casts from each kind to each other.
-pub fn casts(rt: &LibcRuntime) -> io::Result<()> {
+pub(crate) fn casts(rt: &LibcRuntime) -> io::Result<()> {
     for x in [
         0,
         1,

@@ -38,7 +38,7 @@ fn written(
 }
 
 /// Two vectors of four integers.
-pub fn vectors(rt: &LibcRuntime) -> io::Result<()> {
+pub(crate) fn vectors(rt: &LibcRuntime) -> io::Result<()> {
     let a = Operand::run(0);
     let b = Operand::run(4);
     let mut t = [1, 2, i32::MAX, i32::MAX, 10, 20, 0, 1, 0, 0, 0, 0, 77];
@@ -57,7 +57,7 @@ pub fn vectors(rt: &LibcRuntime) -> io::Result<()> {
 }
 
 /// A scalar on either side.
-pub fn scalars(rt: &LibcRuntime) -> io::Result<()> {
+pub(crate) fn scalars(rt: &LibcRuntime) -> io::Result<()> {
     let v = Operand::run(0);
     let x = Operand::scalar(3);
     let mut t = [1, 2, -3, 2, 0, 0, 0, 77];
@@ -72,7 +72,7 @@ pub fn scalars(rt: &LibcRuntime) -> io::Result<()> {
 }
 
 /// Orders, logic and casts.
-pub fn booleans(rt: &LibcRuntime) -> io::Result<()> {
+pub(crate) fn booleans(rt: &LibcRuntime) -> io::Result<()> {
     let integers = [-1, 0, 128, 0];
     let a = Operand::run(0);
     let mut b = [false; 9];
@@ -112,7 +112,7 @@ fn dot(rt: &LibcRuntime, name: &str, r: Result<i32, ElementFault>) -> io::Result
 }
 
 /// Dot products: each product and each partial sum is within 32 bits, or that is the fault.
-pub fn dots(rt: &LibcRuntime) -> io::Result<()> {
+pub(crate) fn dots(rt: &LibcRuntime) -> io::Result<()> {
     let t = [1, 2, 3, 4, 5, 6, i32::MAX, 1, -1, 1, 1, 1];
     dot(rt, "[1, 2, 3] ** [4, 5, 6]", dot_product(&t, 0, 3, 3))?;
     dot(rt, "[] ** []", dot_product(&t, 0, 3, 0))?;
@@ -122,7 +122,7 @@ pub fn dots(rt: &LibcRuntime) -> io::Result<()> {
 }
 
 /// Matrix products, with elements counted row by row.
-pub fn matrices(rt: &LibcRuntime) -> io::Result<()> {
+pub(crate) fn matrices(rt: &LibcRuntime) -> io::Result<()> {
     let mut t = [1, 2, 3, 4, 5, 6, 7, 8, 9, 10, 11, 12, 0, 0, 0, 0, 77];
     let r = matrix_product(&mut t, 0, 6, 2, 3, 2, 12);
     written(rt, "2 x 3 by 3 x 2", r, &t)?;

@@ -65,7 +65,7 @@ fn told(rt: &LibcRuntime, r: Result<(), RowFault>) -> io::Result<()> {
 }
 
 /// A row that works, one that faults, one that is not there.
-pub fn rows(rt: &LibcRuntime) -> io::Result<()> {
+pub(crate) fn rows(rt: &LibcRuntime) -> io::Result<()> {
     let mut table = [6, 8, 10, 1, 2, 0, 0, 0, 0];
     told(rt, quotients(&mut table, 2, 40))?;
     table[5] = 3;

@@ -38,12 +38,12 @@ fn sign(op: Arithmetic) -> &'static str {
 }
 
 /// T or F.
-pub fn letter(b: bool) -> char {
+pub(crate) fn letter(b: bool) -> char {
     if b { 'T' } else { 'F' }
 }
 
 /// Prints the result, or the fault and its number.
-pub fn result(rt: &LibcRuntime, r: Result<i32, ArithmeticFault>) -> io::Result<()> {
+pub(crate) fn result(rt: &LibcRuntime, r: Result<i32, ArithmeticFault>) -> io::Result<()> {
     match r {
         Ok(z) => println!(rt, "{z}"),
         Err(fault) => {
@@ -60,7 +60,7 @@ fn case(rt: &LibcRuntime, x: i32, op: Arithmetic, y: i32) -> io::Result<()> {
 }
 
 /// Every operator at the edges, with itself and each other; then a few more.
-pub fn operators(rt: &LibcRuntime) -> io::Result<()> {
+pub(crate) fn operators(rt: &LibcRuntime) -> io::Result<()> {
     for op in OPERATORS {
         for x in EDGES {
             for y in EDGES {
@@ -82,7 +82,7 @@ pub fn operators(rt: &LibcRuntime) -> io::Result<()> {
 }
 
 /// The four orders at the edges.
-pub fn orders(rt: &LibcRuntime) -> io::Result<()> {
+pub(crate) fn orders(rt: &LibcRuntime) -> io::Result<()> {
     for x in EDGES {
         for y in EDGES {
             let less = letter(Order::Less.apply(x, y));
@@ -99,7 +99,7 @@ pub fn orders(rt: &LibcRuntime) -> io::Result<()> {
 }
 
 /// The logic of booleans.
-pub fn logic(rt: &LibcRuntime) -> io::Result<()> {
+pub(crate) fn logic(rt: &LibcRuntime) -> io::Result<()> {
     for x in [false, true] {
         for y in [false, true] {
             let p = letter(x);
@@ -114,7 +114,7 @@ pub fn logic(rt: &LibcRuntime) -> io::Result<()> {
 }
 
 /// The operators before one value.
-pub fn prefixes(rt: &LibcRuntime) -> io::Result<()> {
+pub(crate) fn prefixes(rt: &LibcRuntime) -> io::Result<()> {
     for x in EDGES {
         print!(rt, "-({x}) = ")?;
         result(rt, Negative.apply(x))?;

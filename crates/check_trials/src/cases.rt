@@ -51,7 +51,7 @@ fn try_case(rt: &LibcRuntime, name: &str, text: &str) -> Result<(), AnyError> {
     Ok(())
 }
 
-pub fn try_cases(rt: &LibcRuntime) -> Result<(), AnyError> {
+pub(crate) fn try_cases(rt: &LibcRuntime) -> Result<(), AnyError> {
     for line in rt.lines(rt.alloc()) {
         let line = line?;
         match line.as_str().split_once(':') {

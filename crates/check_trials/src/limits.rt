@@ -57,7 +57,7 @@ fn show(
     Ok(())
 }
 
-pub fn try_limits(rt: &LibcRuntime) -> Result<(), AnyError> {
+pub(crate) fn try_limits(rt: &LibcRuntime) -> Result<(), AnyError> {
     let deep = nested(rt.alloc(), 32)?;
     show(rt, "32 deep", head(8), deep.as_slice(), deep.len())?;
     let deeper = nested(rt.alloc(), 33)?;

@@ -76,7 +76,7 @@ fn try_infix(rt: &LibcRuntime, operator: u16) -> Result<(), AnyError> {
     Ok(())
 }
 
-pub fn try_pairs(rt: &LibcRuntime) -> Result<(), AnyError> {
+pub(crate) fn try_pairs(rt: &LibcRuntime) -> Result<(), AnyError> {
     for operator in 1..19u16 {
         try_infix(rt, operator)?;
     }

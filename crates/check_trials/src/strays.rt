@@ -77,7 +77,7 @@ fn try_code(rt: &LibcRuntime, code: u16) -> Result<(), AnyError> {
     Ok(())
 }
 
-pub fn try_strays(rt: &LibcRuntime) -> Result<(), AnyError> {
+pub(crate) fn try_strays(rt: &LibcRuntime) -> Result<(), AnyError> {
     for code in 0..36u16 {
         try_code(rt, code)?;
     }

@@ -6,7 +6,7 @@ use sheet::make;
 use std::error::AnyError;
 
 /// A row's code and fields, line 0.
-pub fn row(code: u16, a: u16, b: u16, c: u16) -> Row {
+pub(crate) fn row(code: u16, a: u16, b: u16, c: u16) -> Row {
     Row {
         code,
         line: 0,
@@ -21,7 +21,7 @@ pub fn row(code: u16, a: u16, b: u16, c: u16) -> Row {
 }
 
 /// The head of a sheet that returns an integer scalar.
-pub fn head(width: u16) -> HeadNumbers {
+pub(crate) fn head(width: u16) -> HeadNumbers {
     HeadNumbers {
         width,
         kind: 3,
@@ -33,7 +33,7 @@ pub fn head(width: u16) -> HeadNumbers {
 }
 
 /// The number and the row of the refusal, or 0 and the number of rows.
-pub fn verdict(
+pub(crate) fn verdict(
     rt: &LibcRuntime,
     head: HeadNumbers,
     rows: &[Row],

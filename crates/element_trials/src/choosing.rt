@@ -27,7 +27,7 @@ fn show_vector_or(
     show_vector(rt, name, table, at, n)
 }
 
-pub fn vectors(rt: &LibcRuntime) -> Result<(), AnyError> {
+pub(crate) fn vectors(rt: &LibcRuntime) -> Result<(), AnyError> {
     let mut table: [i32; 9] = [10, 20, 30, 3, 1, 3, 0, 0, 0];
     let answer = pick(
         &mut table,
@@ -86,7 +86,7 @@ pub fn vectors(rt: &LibcRuntime) -> Result<(), AnyError> {
     show_vector_or(rt, "at 3..5", answer, &table, 6, 3)
 }
 
-pub fn beside(rt: &LibcRuntime) -> Result<(), AnyError> {
+pub(crate) fn beside(rt: &LibcRuntime) -> Result<(), AnyError> {
     let integers: [i32; 3] = [2, 2, 1];
     let mut flags = [true, false, false, false, true, true];
     let answer = pick(

@@ -28,7 +28,7 @@ fn show_matrix_or(
     show_matrix(rt, name, table, at, r, s)
 }
 
-pub fn matrices(rt: &LibcRuntime) -> Result<(), AnyError> {
+pub(crate) fn matrices(rt: &LibcRuntime) -> Result<(), AnyError> {
     let mut table: [i32; 14] = [1, 2, 3, 4, 5, 6, 2, 1, 3, 1, 0, 0, 0, 0];
     let rows = Index::Cells { at: 6, count: 2 };
     let answer = pick_matrix(
@@ -77,7 +77,7 @@ pub fn matrices(rt: &LibcRuntime) -> Result<(), AnyError> {
     show_matrix_or(rt, "rows [2 1], columns 3..4", answer, &table, 10, 2, 2)
 }
 
-pub fn intervals(rt: &LibcRuntime) -> Result<(), AnyError> {
+pub(crate) fn intervals(rt: &LibcRuntime) -> Result<(), AnyError> {
     let mut table: [i32; 6] = [9, 9, 9, 9, 9, 9];
     write_interval(&mut table, -2, 1, 1);
     show_vector(rt, "-2..1", &table, 0, 6)?;

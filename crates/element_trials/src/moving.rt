@@ -16,7 +16,7 @@ use element::matrices::stack;
 use element::steps::step_by;
 use std::error::AnyError;
 
-pub fn vectors(rt: &LibcRuntime) -> Result<(), AnyError> {
+pub(crate) fn vectors(rt: &LibcRuntime) -> Result<(), AnyError> {
     let mut table: [i32; 9] = [5, 6, 7, 9, 9, 9, 9, 9, 9];
     copy(&mut table, 1, 2, 3);
     show_vector(rt, "copy", &table, 0, 9)?;
@@ -34,7 +34,7 @@ pub fn vectors(rt: &LibcRuntime) -> Result<(), AnyError> {
     show_vector(rt, "pad with false", &flags, 0, 4)
 }
 
-pub fn orders(rt: &LibcRuntime) -> Result<(), AnyError> {
+pub(crate) fn orders(rt: &LibcRuntime) -> Result<(), AnyError> {
     let mut table: [i32; 10] = [1, 2, 3, 4, 5, 0, 0, 0, 0, 0];
     reverse(&mut table, 0, 5, 5);
     show_vector(rt, "reverse", &table, 0, 10)?;
@@ -52,7 +52,7 @@ pub fn orders(rt: &LibcRuntime) -> Result<(), AnyError> {
     show_vector(rt, "nothing reversed and stepped", &empty, 0, 0)
 }
 
-pub fn matrices(rt: &LibcRuntime) -> Result<(), AnyError> {
+pub(crate) fn matrices(rt: &LibcRuntime) -> Result<(), AnyError> {
     let mut table: [i32; 14] = [1, 2, 3, 4, 7, 7, 7, 7, 7, 7, 7, 7, 7, 7];
     resize_matrix(&mut table, 0, 2, 2, 4, 3, 3);
     show_matrix(rt, "2 by 2 to 3 by 3", &table, 4, 3, 3)?;
@@ -69,7 +69,7 @@ pub fn matrices(rt: &LibcRuntime) -> Result<(), AnyError> {
     show_vector(rt, "and what lies behind", &table, 10, 4)
 }
 
-pub fn comparisons(rt: &LibcRuntime) -> Result<(), AnyError> {
+pub(crate) fn comparisons(rt: &LibcRuntime) -> Result<(), AnyError> {
     let table: [i32; 6] = [1, 2, 1, 2, 2, 2];
     println!(rt, "[1 2] and [1 2]: {}", equal(&table, 0, 2, 2))?;
     println!(rt, "[1 2] and [2 2]: {}", equal(&table, 0, 3, 2))?;

@@ -10,7 +10,7 @@ use print::print_scalar;
 use print::print_vector;
 use std::error::AnyError;
 
-pub fn scalars(rt: &LibcRuntime) -> Result<(), AnyError> {
+pub(crate) fn scalars(rt: &LibcRuntime) -> Result<(), AnyError> {
     show_scalar(rt, "least integer", i32::MIN)?;
     show_scalar(rt, "greatest integer", i32::MAX)?;
     show_scalar(rt, "zero", 0i32)?;
@@ -32,7 +32,7 @@ pub fn scalars(rt: &LibcRuntime) -> Result<(), AnyError> {
     Ok(())
 }
 
-pub fn vectors(rt: &LibcRuntime) -> Result<(), AnyError> {
+pub(crate) fn vectors(rt: &LibcRuntime) -> Result<(), AnyError> {
     let integers: [i32; 3] = [1, -2, 30];
     show_vector(rt, "vector", &integers, 0, 3)?;
     show_vector(rt, "its last", &integers, 2, 1)?;
@@ -41,7 +41,7 @@ pub fn vectors(rt: &LibcRuntime) -> Result<(), AnyError> {
     show_vector(rt, "characters", &[72i8, 105], 0, 2)
 }
 
-pub fn matrices(rt: &LibcRuntime) -> Result<(), AnyError> {
+pub(crate) fn matrices(rt: &LibcRuntime) -> Result<(), AnyError> {
     let integers: [i32; 6] = [1, 2, 3, 4, 5, 6];
     show_matrix(rt, "2 by 2", &integers, 0, 2, 2)?;
     show_matrix(rt, "2 by 3", &integers, 0, 2, 3)?;
@@ -50,7 +50,7 @@ pub fn matrices(rt: &LibcRuntime) -> Result<(), AnyError> {
     show_matrix(rt, "2 rows, no columns", &integers, 0, 2, 0)
 }
 
-pub fn room(rt: &LibcRuntime) -> Result<(), AnyError> {
+pub(crate) fn room(rt: &LibcRuntime) -> Result<(), AnyError> {
     let integers: [i32; 2] = [10, 20];
     let mut short = *b"......";
     let refused = print_vector(&integers, 0, 2, &mut short, 0);

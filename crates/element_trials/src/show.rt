@@ -6,7 +6,7 @@ use print::print_vector;
 use std::error::AnyError;
 
 /// Prints a name and the text that stands in the first bytes of a buffer.
-pub fn show_text(
+pub(crate) fn show_text(
     rt: &LibcRuntime,
     name: &str,
     buffer: &[u8],
@@ -22,14 +22,18 @@ pub fn show_text(
     Ok(())
 }
 
-pub fn show_scalar<E: Element>(rt: &LibcRuntime, name: &str, value: E) -> Result<(), AnyError> {
+pub(crate) fn show_scalar<E: Element>(
+    rt: &LibcRuntime,
+    name: &str,
+    value: E,
+) -> Result<(), AnyError> {
     let mut buffer = [0u8; 64];
     let end = print_scalar(value, &mut buffer, 0);
     show_text(rt, name, &buffer, end)
 }
 
 /// Shows the n cells from `at` on, or an empty vector where the table ends before.
-pub fn show_vector<E: Element>(
+pub(crate) fn show_vector<E: Element>(
     rt: &LibcRuntime,
     name: &str,
     table: &[E],
@@ -45,7 +49,7 @@ pub fn show_vector<E: Element>(
 }
 
 /// Shows the r × s matrix from `at` on.
-pub fn show_matrix<E: Element>(
+pub(crate) fn show_matrix<E: Element>(
     rt: &LibcRuntime,
     name: &str,
     table: &[E],

@@ -20,7 +20,7 @@ fn tell(rt: &LibcRuntime, name: &str, answer: Result<(), Outside>) -> Result<(),
     Ok(())
 }
 
-pub fn vectors(rt: &LibcRuntime) -> Result<(), AnyError> {
+pub(crate) fn vectors(rt: &LibcRuntime) -> Result<(), AnyError> {
     let mut table: [i32; 9] = [10, 20, 30, 1, 3, 1, 7, 8, 9];
     let answer = store(
         &mut table,
@@ -63,7 +63,7 @@ pub fn vectors(rt: &LibcRuntime) -> Result<(), AnyError> {
     show_vector(rt, "the variable then", &table, 0, 3)
 }
 
-pub fn matrices(rt: &LibcRuntime) -> Result<(), AnyError> {
+pub(crate) fn matrices(rt: &LibcRuntime) -> Result<(), AnyError> {
     let mut table: [i32; 4] = [1, 2, 3, 4];
     let answer = store_matrix(&mut table, 0, 2, 2, 2, 1, 9);
     tell(rt, "9 at row 2, column 1", answer)?;

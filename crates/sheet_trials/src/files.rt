@@ -40,7 +40,7 @@ fn push_u16(file: &mut Vec<u8>, n: u16) -> Result<(), AllocError> {
 }
 
 /// The bytes of the parts.
-pub fn file_of(heap: Global, parts: Parts) -> Result<Vec<u8>, AllocError> {
+pub(crate) fn file_of(heap: Global, parts: Parts) -> Result<Vec<u8>, AllocError> {
     let mut file = Vec::new(heap);
     for _ in 0..parts.note {
         file.push(b'n')?;
@@ -61,7 +61,7 @@ pub fn file_of(heap: Global, parts: Parts) -> Result<Vec<u8>, AllocError> {
 }
 
 /// A row whose fields all differ.
-pub fn row(n: i32) -> Row {
+pub(crate) fn row(n: i32) -> Row {
     Row {
         code: 1,
         line: 2,
@@ -76,7 +76,7 @@ pub fn row(n: i32) -> Row {
 }
 
 /// So many rows.
-pub fn rows(heap: Global, count: usize) -> Result<Vec<Row>, AllocError> {
+pub(crate) fn rows(heap: Global, count: usize) -> Result<Vec<Row>, AllocError> {
     let mut rows = Vec::new(heap);
     for _ in 0..count {
         rows.push(row(-1))?;

@@ -169,7 +169,7 @@ fn try_order(rt: &LibcRuntime) -> Result<(), AnyError> {
     Ok(())
 }
 
-pub fn try_loads(rt: &LibcRuntime) -> Result<(), AnyError> {
+pub(crate) fn try_loads(rt: &LibcRuntime) -> Result<(), AnyError> {
     try_lengths(rt)?;
     try_damage(rt)?;
     try_order(rt)

@@ -93,7 +93,7 @@ fn try_types(rt: &LibcRuntime) -> Result<(), AnyError> {
     Ok(())
 }
 
-pub fn try_makes(rt: &LibcRuntime) -> Result<(), AnyError> {
+pub(crate) fn try_makes(rt: &LibcRuntime) -> Result<(), AnyError> {
     try_rows(rt)?;
     try_widths(rt)?;
     try_types(rt)?;

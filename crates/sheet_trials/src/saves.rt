@@ -80,7 +80,7 @@ fn try_again(rt: &LibcRuntime, draft: &Draft) -> Result<(), AnyError> {
     Ok(())
 }
 
-pub fn try_saves(rt: &LibcRuntime) -> Result<(), AnyError> {
+pub(crate) fn try_saves(rt: &LibcRuntime) -> Result<(), AnyError> {
     match draft(rt)? {
         Ok(draft) => {
             try_buffers(rt, &draft)?;

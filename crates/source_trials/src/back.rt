@@ -8,7 +8,7 @@ use source::read_integer;
 use std::io;
 
 /// Reads the line of one reading: the reading again, whatever it is.
-pub fn read_back(reading: i32) -> ReadValue<i32>
+pub(crate) fn read_back(reading: i32) -> ReadValue<i32>
     ensures { λ r. ⌜ r ≡ good reading ⌝ }
 {
     let readings = [reading];
@@ -27,7 +27,7 @@ fn show(rt: &LibcRuntime, reading: i32) -> io::Result<()> {
     println!(rt, "{reading}: {value}, state {state}")
 }
 
-pub fn readings(rt: &LibcRuntime) -> io::Result<()> {
+pub(crate) fn readings(rt: &LibcRuntime) -> io::Result<()> {
     println!(rt, "readings that are read back")?;
     show(rt, -2147483648)?;
     show(rt, -1)?;

@@ -22,7 +22,7 @@ fn read_pair<S: Source>(s: &mut S, taken: &mut u32) -> (ReadValue<i32>, ReadValu
     (one, two)
 }
 
-pub fn two_at_once(rt: &LibcRuntime) -> io::Result<()> {
+pub(crate) fn two_at_once(rt: &LibcRuntime) -> io::Result<()> {
     println!(rt, "two at once")?;
     if let Ok(mut text) = Text::new(b"7 -8 9") {
         let mut taken = 0;

@@ -52,7 +52,7 @@ fn compare(rt: &LibcRuntime, name: &str, readings: &[i32], bytes: &[u8]) -> io::
     Ok(())
 }
 
-pub fn recorders(rt: &LibcRuntime) -> io::Result<()> {
+pub(crate) fn recorders(rt: &LibcRuntime) -> io::Result<()> {
     println!(rt, "recorders beside texts")?;
     compare(rt, "no readings", &[], b"")?;
     compare(rt, "one and two digits", &[7, -10], b"7\n-10\n")?;
@@ -76,7 +76,7 @@ fn length_of(rt: &LibcRuntime, name: &str, readings: &[i32]) -> io::Result<()> {
     }
 }
 
-pub fn limits(rt: &LibcRuntime) -> io::Result<()> {
+pub(crate) fn limits(rt: &LibcRuntime) -> io::Result<()> {
     println!(rt, "limits")?;
     let blanks = vec![in rt.alloc(); b' '; 16_777_217]?;
     integer(rt, "16777217 blanks", &blanks)?;
@@ -91,7 +91,7 @@ pub fn limits(rt: &LibcRuntime) -> io::Result<()> {
     Ok(())
 }
 
-pub fn long_words(rt: &LibcRuntime) -> io::Result<()> {
+pub(crate) fn long_words(rt: &LibcRuntime) -> io::Result<()> {
     println!(rt, "long words")?;
     let mut bytes = [b'0'; 1001];
     bytes[1000] = b'7';

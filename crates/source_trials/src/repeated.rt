@@ -16,7 +16,7 @@ pub struct Repeated {
 
 impl Repeated {
     /// `byte`, `times` times, or as often as a source may.
-    pub fn new(byte: u8, times: u32) -> Repeated
+    pub(crate) fn new(byte: u8, times: u32) -> Repeated
         ensures { λ r. ⌜ repeats r ≡ replicate (min times 16777216) byte ⌝ }
     {
         Repeated { byte, left: times }

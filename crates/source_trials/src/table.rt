@@ -12,7 +12,7 @@ use std::fmt::Display;
 use std::io;
 
 /// Prints one read, with its case's name.
-pub fn show<T: Display + Drop, S: Source>(
+pub(crate) fn show<T: Display + Drop, S: Source>(
     rt: &LibcRuntime,
     name: &str,
     read: ReadValue<T>,
@@ -28,7 +28,7 @@ pub fn show<T: Display + Drop, S: Source>(
     }
 }
 
-pub fn integer(rt: &LibcRuntime, name: &str, bytes: &[u8]) -> io::Result<()> {
+pub(crate) fn integer(rt: &LibcRuntime, name: &str, bytes: &[u8]) -> io::Result<()> {
     match Text::new(bytes) {
         Ok(mut text) => {
             let mut taken = 0;
@@ -39,7 +39,7 @@ pub fn integer(rt: &LibcRuntime, name: &str, bytes: &[u8]) -> io::Result<()> {
     }
 }
 
-pub fn boolean(rt: &LibcRuntime, name: &str, bytes: &[u8]) -> io::Result<()> {
+pub(crate) fn boolean(rt: &LibcRuntime, name: &str, bytes: &[u8]) -> io::Result<()> {
     match Text::new(bytes) {
         Ok(mut text) => {
             let mut taken = 0;
@@ -50,7 +50,7 @@ pub fn boolean(rt: &LibcRuntime, name: &str, bytes: &[u8]) -> io::Result<()> {
     }
 }
 
-pub fn character(rt: &LibcRuntime, name: &str, bytes: &[u8]) -> io::Result<()> {
+pub(crate) fn character(rt: &LibcRuntime, name: &str, bytes: &[u8]) -> io::Result<()> {
     match Text::new(bytes) {
         Ok(mut text) => {
             let mut taken = 0;
@@ -61,7 +61,7 @@ pub fn character(rt: &LibcRuntime, name: &str, bytes: &[u8]) -> io::Result<()> {
     }
 }
 
-pub fn refused(rt: &LibcRuntime, name: &str, refusal: SourceRefusal) -> io::Result<()> {
+pub(crate) fn refused(rt: &LibcRuntime, name: &str, refusal: SourceRefusal) -> io::Result<()> {
     let number = refusal.number();
     println!(rt, "{name}: refused {number}, {refusal}")
 }

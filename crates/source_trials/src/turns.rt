@@ -9,7 +9,7 @@ use source::read_integer;
 use std::io;
 
 /// Four words as integers, each where the last read left off.
-pub fn integers<S: Source>(rt: &LibcRuntime, s: &mut S, taken: &mut u32) -> io::Result<()> {
+pub(crate) fn integers<S: Source>(rt: &LibcRuntime, s: &mut S, taken: &mut u32) -> io::Result<()> {
     let read = read_integer(s, taken);
     show(rt, "first integer", read, *taken, s)?;
     let read = read_integer(s, taken);
@@ -38,7 +38,7 @@ fn at_end<S: Source>(rt: &LibcRuntime, s: &mut S, taken: &mut u32) -> io::Result
     show(rt, "last character", read, *taken, s)
 }
 
-pub fn in_turn(rt: &LibcRuntime) -> io::Result<()> {
+pub(crate) fn in_turn(rt: &LibcRuntime) -> io::Result<()> {
     println!(rt, "reads in turn")?;
     if let Ok(mut text) = Text::new(b" \t-12 +7\n2147483648 x F\n\xfeend ") {
         let mut taken = 0;
@@ -49,7 +49,7 @@ pub fn in_turn(rt: &LibcRuntime) -> io::Result<()> {
     Ok(())
 }
 
-pub fn greatest_count(rt: &LibcRuntime) -> io::Result<()> {
+pub(crate) fn greatest_count(rt: &LibcRuntime) -> io::Result<()> {
     println!(rt, "a count of 4294967292 to begin with")?;
     if let Ok(mut text) = Text::new(b"12 3 4") {
         let mut taken = 4_294_967_292;

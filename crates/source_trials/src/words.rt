@@ -94,7 +94,7 @@ fn characters(rt: &LibcRuntime, cases: &[Case]) -> io::Result<()> {
 }
 
 /// Each case read once, as its table says.
-pub fn one_by_one(rt: &LibcRuntime) -> io::Result<()> {
+pub(crate) fn one_by_one(rt: &LibcRuntime) -> io::Result<()> {
     integers(rt, "integers", &INTEGERS)?;
     integers(rt, "words that are no integers", &NO_INTEGERS)?;
     integers(rt, "blanks and ends", &BLANKS)?;
