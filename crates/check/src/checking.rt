@@ -23,6 +23,7 @@ use sheet::Draft;
 use sheet::Row;
 use types::Typing;
 
+/// From which row on only expression rows stand, after row p.
 fn next_start(i: Instruction, start: usize, p: usize) -> usize
     requires { ⌜ p < 512 ⌝ }
     ensures { λ r. ⌜ r ≡ cond (makes i) start (p + 1) ⌝ }

@@ -148,6 +148,7 @@ fn judge_control(
     }
 }
 
+/// Kinds, shapes and sizes of any row.
 fn judge_type(
     width: u16,
     result: Typing,
@@ -163,6 +164,7 @@ fn judge_type(
     }
 }
 
+/// The rules in their order: operands, blocks, scope, then kinds, shapes and sizes.
 fn judge_instruction(
     width: u16,
     result: Typing,
@@ -187,6 +189,8 @@ fn judge_instruction(
     judge_type(width, result, lines, i)
 }
 
+/// The line of row p, or the first rule that it breaks: from its own fields and the lines before it. Only
+/// expression rows stand from `start` on, and `blocks` are those open before p.
 pub fn judge_row(
     width: u16,
     result: Typing,
@@ -213,6 +217,7 @@ pub fn judge_row(
     }
 }
 
+/// Whether the row makes a value.
 pub fn is_expression(i: Instruction) -> bool
     ensures { λ r. ⌜ r ≡ makes i ⌝ }
 {

@@ -16,6 +16,7 @@ use instruction::Start;
 use types::Kind;
 use types::Typing;
 
+/// The line of row i; past the end that of a return, which names no variable and opens no block.
 pub fn line_at(lines: &[Line], i: u16) -> Line
     ensures { λ r. ⌜ r ≡ at (now (lines .entry)) i ⌝ }
 {
@@ -32,6 +33,7 @@ pub fn line_at(lines: &[Line], i: u16) -> Line
     }
 }
 
+/// The typing of row i; an integer scalar where it has none.
 pub fn typing_at(lines: &[Line], i: u16) -> Typing
     ensures { λ r. ⌜ r ≡ typingAt (now (lines .entry)) i ⌝ }
 {
@@ -41,6 +43,7 @@ pub fn typing_at(lines: &[Line], i: u16) -> Typing
     }
 }
 
+/// Whether row a stands from `start` on and before p, where only expression rows stand.
 fn is_between(start: usize, p: usize, a: u16) -> bool
     ensures { λ r. ⌜ r ≡ between start p a ⌝ }
 {
@@ -103,6 +106,7 @@ fn is_control_placed(start: usize, p: usize, t: Control) -> bool
     }
 }
 
+/// Whether each operand is an expression row directly before p.
 pub fn is_placed(start: usize, p: usize, i: Instruction) -> bool
     ensures { λ r. ⌜ r ≡ all (between start p) (operands i) ⌝ }
 {
@@ -150,6 +154,7 @@ fn is_declare(i: Instruction) -> bool
     }
 }
 
+/// The row that an opener names as the one that closes its block; the opener that an end names.
 fn closer_of(i: Instruction) -> u16
     ensures { λ r. ⌜ r ≡ closer i ⌝ }
 {
@@ -163,6 +168,7 @@ fn closer_of(i: Instruction) -> u16
     }
 }
 
+/// The opener of the innermost loop or each that is open.
 fn innermost_loop(lines: &[Line], blocks: &Blocks) -> Option<u16>
     ensures { λ r. ⌜ r ≡ loopAmong (now (lines .entry)) (openRows (now (blocks .entry))) ⌝ }
 {
@@ -177,6 +183,7 @@ fn innermost_loop(lines: &[Line], blocks: &Blocks) -> Option<u16>
     None
 }
 
+/// Whether row p, an else, may close the innermost block.
 fn can_turn(lines: &[Line], blocks: &Blocks, p: usize) -> bool
     ensures { λ r. ⌜ r ≡ closesIf (now (lines .entry)) p (openRows (now (blocks .entry))) ⌝ }
 {
@@ -187,6 +194,7 @@ fn can_turn(lines: &[Line], blocks: &Blocks, p: usize) -> bool
     }
 }
 
+/// Whether row p, an end that names row b, may close the innermost block.
 fn can_close(lines: &[Line], blocks: &Blocks, p: usize, b: u16) -> bool
     ensures { λ r. ⌜ r ≡ closesBlock (now (lines .entry)) p b (openRows (now (blocks .entry))) ⌝ }
 {
@@ -220,6 +228,7 @@ fn is_return(s: Change) -> bool
     }
 }
 
+/// Whether row p keeps the rule of blocks.
 pub fn is_nested(lines: &[Line], blocks: &Blocks, p: usize, last: bool, i: Instruction) -> bool
     ensures { λ r. ⌜ r ≡ nests (now (lines .entry)) p (openRows (now (blocks .entry))) last i ⌝ }
 {
@@ -239,6 +248,7 @@ fn is_still_in(block: Option<u16>, blocks: &Blocks) -> bool
     }
 }
 
+/// Whether row v declares a variable, in a block that is still open.
 fn is_in_scope(lines: &[Line], blocks: &Blocks, p: usize, v: u16) -> bool
     ensures { λ r. ⌜ r ≡ inScope (now (lines .entry)) p (openRows (now (blocks .entry))) v ⌝ }
 {
@@ -246,12 +256,14 @@ fn is_in_scope(lines: &[Line], blocks: &Blocks, p: usize, v: u16) -> bool
     (v as usize) < p && is_declare(line.instruction) && is_still_in(line.block, blocks)
 }
 
+/// Whether row v is an each row whose block is still open.
 fn is_in_each(lines: &[Line], blocks: &Blocks, v: u16) -> bool
     ensures { λ r. ⌜ r ≡ inEach (now (lines .entry)) (openRows (now (blocks .entry))) v ⌝ }
 {
     is_each(line_at(lines, v).instruction) && blocks.contains(v)
 }
 
+/// Whether the variable that the row names is in scope; one that it writes is declared.
 pub fn is_scoped(lines: &[Line], blocks: &Blocks, p: usize, i: Instruction) -> bool
     ensures { λ r. ⌜ r ≡ scoped (now (lines .entry)) p (openRows (now (blocks .entry))) i ⌝ }
 {
@@ -275,6 +287,7 @@ fn loop_row(lines: &[Line], blocks: &Blocks) -> u16
     }
 }
 
+/// After which row a jump goes on.
 pub fn target_of(lines: &[Line], blocks: &Blocks, i: Instruction) -> u16
     ensures { λ r. ⌜ r ≡ targetOf (now (lines .entry)) (openRows (now (blocks .entry))) i ⌝ }
 {

@@ -11,6 +11,7 @@ use instruction::Control;
 use instruction::Instruction;
 
 impl Blocks {
+    /// No block is open.
     pub fn new() -> Blocks
         ensures { λ r. ⌜ openRows r ≡ [] ⌝ }
     {
@@ -20,12 +21,14 @@ impl Blocks {
         }
     }
 
+    /// How many are open.
     pub fn depth(&self) -> usize
         ensures { λ r. ⌜ r ≡ length (openRows (now (self .entry))) ⌝ }
     {
         self.depth
     }
 
+    /// Row `row` opens a block.
     pub fn enter(&mut self, row: u16)
         requires { ⌜ length (openRows (now self)) < 32 ⌝ }
         ensures { λ _. ⌜ openRows (now (self .exit)) ≡ row ∷ openRows (now (self .entry)) ⌝ }
@@ -35,6 +38,7 @@ impl Blocks {
         self.depth = depth + 1;
     }
 
+    /// The innermost block is closed, if one is open.
     pub fn leave(&mut self)
         ensures { λ _. ⌜ openRows (now (self .exit)) ≡ outer (openRows (now (self .entry))) ⌝ }
     {
@@ -43,6 +47,7 @@ impl Blocks {
         }
     }
 
+    /// The opener of the innermost block.
     pub fn innermost(&self) -> Option<u16>
         ensures { λ r. ⌜ r ≡ innermostOf (openRows (now (self .entry))) ⌝ }
     {
@@ -53,6 +58,7 @@ impl Blocks {
         }
     }
 
+    /// Whether the block of this opener is open.
     pub fn contains(&self, row: u16) -> bool
         ensures { λ r. ⌜ r ≡ member row (openRows (now (self .entry))) ⌝ }
     {

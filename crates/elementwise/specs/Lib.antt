@@ -1,3 +1,4 @@
 pub mod Operands
 pub mod Products
 pub mod Results
+pub mod Sure

@@ -13,6 +13,9 @@ use crate::binary::combine;
 use crate::binary::combine_from;
 use crate::binary::try_combine;
 use crate::operands::Operand;
+use crate::sure::DifferenceSure;
+use crate::sure::SumSure;
+use crate::sure::try_combine_sure;
 use arithmetic::faults::ElementFault;
 use arithmetic::integers::Arithmetic;
 use arithmetic::integers::Difference;
@@ -56,8 +59,8 @@ pub fn calculate(
     ensures { λ r. ⌜ Wrote (collected 1 (map2 (exact op) (along (pos 0) (now (table .entry)) a n) (along (pos 0) (now (table .entry)) b n))) (now (table .entry)) to n r (now (table .exit)) ⌝ }
 {
     match op {
-        Arithmetic::Add => try_combine(table, Sum, a, b, to, n),
-        Arithmetic::Subtract => try_combine(table, Difference, a, b, to, n),
+        Arithmetic::Add => try_combine_sure(table, Sum, a, b, to, n),
+        Arithmetic::Subtract => try_combine_sure(table, Difference, a, b, to, n),
         Arithmetic::Multiply => try_combine(table, Product, a, b, to, n),
         Arithmetic::Divide => try_combine(table, Quotient, a, b, to, n),
         Arithmetic::Remainder => try_combine(table, Remainder, a, b, to, n),

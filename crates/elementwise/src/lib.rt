@@ -6,4 +6,5 @@ pub mod operands;
 pub mod prefix;
 pub mod products;
 pub mod rules;
+pub mod sure;
 pub mod unary;

@@ -9,6 +9,7 @@ use arithmetic::operators::Prefix;
 use arithmetic::truths::Logic;
 use arithmetic::truths::Order;
 
+/// The prefix operator that has this number, if one has.
 pub fn prefix_of(n: u16) -> Option<Prefix>
     ensures { λ r. ⌜ r ≡ prefixOf n ⌝ }
 {
@@ -19,6 +20,7 @@ pub fn prefix_of(n: u16) -> Option<Prefix>
     }
 }
 
+/// The infix operator that has this number, if one has.
 pub fn infix_of(n: u16) -> Option<Infix>
     ensures { λ r. ⌜ r ≡ infixOf n ⌝ }
 {
@@ -45,6 +47,7 @@ pub fn infix_of(n: u16) -> Option<Infix>
     }
 }
 
+/// What is asked of a shape by this number, if anything is.
 pub fn measure_of(n: u16) -> Option<Measure>
     ensures { λ r. ⌜ r ≡ measureOf n ⌝ }
 {

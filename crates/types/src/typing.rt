@@ -23,6 +23,7 @@ pub struct Typing {
 }
 
 impl Typing {
+    /// A scalar of this kind.
     pub fn scalar(kind: Kind) -> Typing
         ensures { λ t. ⌜ t ≡ scalarOf kind ⌝ }
     {
@@ -34,6 +35,7 @@ impl Typing {
         }
     }
 
+    /// A vector of this kind and length.
     pub fn vector(kind: Kind, s: Size) -> Typing
         ensures { λ t. ⌜ t ≡ vectorOf kind s ⌝ }
     {
@@ -45,6 +47,7 @@ impl Typing {
         }
     }
 
+    /// A matrix of this kind and these sizes.
     pub fn matrix(kind: Kind, r: Size, s: Size) -> Typing
         ensures { λ t. ⌜ t ≡ matrixOf kind r s ⌝ }
     {
@@ -56,6 +59,7 @@ impl Typing {
         }
     }
 
+    /// An interval of integers.
     pub fn interval() -> Typing
         ensures { λ t. ⌜ t ≡ intervalOf ⌝ }
     {
@@ -67,12 +71,14 @@ impl Typing {
         }
     }
 
+    /// Whether it has this shape.
     pub fn is(self, shape: Shape) -> bool
         ensures { λ r. ⌜ r ≡ is shape self ⌝ }
     {
         shape.same(self.shape)
     }
 
+    /// Whether it is of this kind.
     pub fn is_of(self, kind: Kind) -> bool
         ensures { λ r. ⌜ r ≡ of kind self ⌝ }
     {
