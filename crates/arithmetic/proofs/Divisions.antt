@@ -1,4 +1,4 @@
--- Quotient and remainder, sign by sign. Assumes nothing.
+-- Quotient and remainder, sign by sign.
 use mathlib.Core.Path.{_≡_, refl, sym, ap, _∙_}
 use Prim.Native.Nat.{ℕ, zero, suc, _+_, _*_, _/_, _%_, _<_, zero-le}
 use native.Mathlib.Nat.{zero-mul}

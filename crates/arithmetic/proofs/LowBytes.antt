@@ -1,4 +1,4 @@
--- The low byte of an integer, signed. Assumes nothing.
+-- The low byte of an integer, signed.
 use mathlib.Core.Path.{_≡_, refl, sym, ap, _∙_}
 use mathlib.Core.Bool.{Bool, true, false, cond}
 use Prim.Native.Nat.{ℕ, zero, suc, _+_, _-_, _*_, _/_, _%_, _≤_, _<_}

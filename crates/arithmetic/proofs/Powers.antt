@@ -1,4 +1,4 @@
--- The power that `checked_pow` cites is the repeated product. Assumes nothing.
+-- The power that `checked_pow` cites is the repeated product.
 use mathlib.Core.Path.{_≡_, refl, sym, ap, _∙_}
 use mathlib.Core.Bool.{Bool, true, false, not, cond}
 use Prim.Native.Nat.{ℕ, zero, suc, _+_, _*_, _^_, _%_}

@@ -1,4 +1,4 @@
--- Integers of 32 bits, and the product of two of them, fit 64 bits. Assumes nothing.
+-- Integers of 32 bits, and the product of two of them, fit 64 bits.
 use Prim.Native.Nat.{ℕ, zero, suc, _+_, _*_, _^_, _≤_, _<_}
 use native.Mathlib.Omega.{arith}
 use lib.IntN.{ℤ, pos, negsuc, negℤ, _*ℤ_}

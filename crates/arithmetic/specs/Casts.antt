@@ -1,4 +1,4 @@
--- What a boolean, a character and an integer are as another kind. Assumes nothing.
+-- What a boolean, a character and an integer are as another kind.
 use mathlib.Core.Bool.{Bool, true, false, cond}
 use Prim.Native.Nat.{ℕ, zero, suc}
 use lib.IntN.{ℤ, pos, negsuc, _-ℤ_}

@@ -1,4 +1,4 @@
--- What each operator gives on the integers, or why it gives nothing. Assumes nothing.
+-- What each operator gives on the integers, or why it gives nothing.
 use mathlib.Core.Bool.{cond}
 use Prim.Native.Nat.{ℕ, zero, suc, _^_}
 use lib.Dec.{ltb}

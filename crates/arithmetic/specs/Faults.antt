@@ -1,4 +1,4 @@
--- The faults of integers: their numbers, their texts, their places. Assumes nothing.
+-- The faults of integers: their numbers, their texts, their places.
 use Prim.Native.Nat.{ℕ}
 use mathlib.Core.List.{List}
 use lib.Chars.{codes}

@@ -1,4 +1,4 @@
--- Laws of quotients, remainders and low bytes. Assumes nothing.
+-- Laws of quotients, remainders and low bytes.
 use mathlib.Core.Path.{_≡_}
 use Prim.Native.Nat.{ℕ, _<_}
 use lib.IntN.{ℤ, pos, negsuc, natAbs, _+ℤ_, _*ℤ_}

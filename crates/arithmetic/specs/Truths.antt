@@ -1,4 +1,4 @@
--- The orders of integers and the logic of booleans. Assumes nothing.
+-- The orders of integers and the logic of booleans.
 use mathlib.Core.Bool.{Bool, cond, not, _&&_, _||_}
 use lib.IntN.{ℤ}
 use lib.Signed.{ltZ, leZ}

@@ -1,4 +1,4 @@
--- A loop that writes the list R, cell by cell, into a table T from `to` on. Assumes nothing.
+-- A loop that writes the list R, cell by cell, into a table T from `to` on.
 use mathlib.Core.Path.{_≡_, refl, sym, ap, _∙_}
 use mathlib.Core.Logic.{⊎-elim}
 use mathlib.Core.List.{List, [], _∷_, _++_, reverse}

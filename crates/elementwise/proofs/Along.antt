@@ -1,4 +1,4 @@
--- A function of the k-th values of operands, for each k, is the function along the operands. Assumes nothing.
+-- A function of the k-th values of operands, for each k, is the function along the operands.
 use mathlib.Core.Path.{_≡_, refl, sym, ap, subst, _∙_}
 use mathlib.Core.Bool.{Bool, true, false, cond}
 use mathlib.Core.List.{List, [], _∷_, map}

@@ -1,4 +1,4 @@
--- A loop that goes along a list of results up to the first fault. Assumes nothing.
+-- A loop that goes along a list of results up to the first fault.
 use mathlib.Core.Path.{_≡_, refl, sym, ap, subst, _∙_}
 use mathlib.Core.Bool.{Bool, true, false, cond}
 use mathlib.Core.List.{List, [], _∷_, _++_, map}

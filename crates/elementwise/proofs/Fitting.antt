@@ -1,4 +1,4 @@
--- Where every result fits 32 bits, the results are the values. Assumes nothing.
+-- Where every result fits 32 bits, the results are the values.
 use mathlib.Core.Path.{_≡_, refl, sym, ap, subst, _∙_}
 use mathlib.Core.List.{List, _∷_, map}
 use Prim.Native.Nat.{ℕ, zero, suc, _+_, _≤_, _<_}

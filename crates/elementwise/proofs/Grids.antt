@@ -1,4 +1,4 @@
--- Lists made from a function of the index, and of a row and a column. Assumes nothing.
+-- Lists made from a function of the index, and of a row and a column.
 use mathlib.Core.Path.{_≡_, refl, sym, ap, _∙_}
 use mathlib.Core.List.{List, [], _∷_, _++_, append-assoc}
 use Prim.Native.Nat.{ℕ, zero, suc, _+_, _*_, _/_, _%_, _≤_, _<_}

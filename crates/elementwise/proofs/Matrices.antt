@@ -1,4 +1,4 @@
--- Rows and columns of matrices that lie in a table. Assumes nothing.
+-- Rows and columns of matrices that lie in a table.
 use mathlib.Core.Path.{_≡_, refl, sym, ap, _∙_}
 use mathlib.Core.List.{List}
 use Prim.Native.Nat.{ℕ, suc, _+_, _-_, _*_, _/_, _%_, _≤_, _<_}

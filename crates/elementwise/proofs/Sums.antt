@@ -1,4 +1,4 @@
--- The step and the end of a loop that adds products. Assumes nothing.
+-- The step and the end of a loop that adds products.
 use mathlib.Core.Path.{_≡_, refl, sym, ap, _∙_}
 use mathlib.Core.List.{List, [], _∷_}
 use Prim.Native.Nat.{ℕ, suc, _+_, _*_, _≤_, _<_}

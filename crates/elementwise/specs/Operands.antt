@@ -1,4 +1,4 @@
--- The values of an operand. Assumes nothing.
+-- The values of an operand.
 use mathlib.Core.Bool.{true, false, cond}
 use mathlib.Core.List.{List}
 use Prim.Native.Nat.{ℕ, _+_}

@@ -1,4 +1,4 @@
--- Products of vectors and of matrices. Assumes nothing.
+-- Products of vectors and of matrices.
 use mathlib.Core.List.{List, [], _∷_}
 use Prim.Native.Nat.{ℕ, _+_, _*_}
 use lib.IntN.{ℤ, pos}

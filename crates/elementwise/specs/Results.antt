@@ -1,4 +1,4 @@
--- Results element by element, and what is then written. Assumes nothing.
+-- Results element by element, and what is then written.
 use mathlib.Core.Path.{_≡_}
 use mathlib.Core.List.{List, [], _∷_}
 use Prim.Native.Nat.{ℕ, _+_}

@@ -1,4 +1,4 @@
--- Integers that fit 32 bits. Assumes nothing.
+-- Integers that fit 32 bits.
 use Prim.Native.Nat.{_^_, _<_}
 use lib.IntN.{ℤ}
 use lib.Signed.{mag}
