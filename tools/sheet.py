@@ -40,4 +40,6 @@ def encode(note, head, rows):
 if __name__ == "__main__":
     if len(sys.argv) != 3:
         sys.exit(__doc__)
-    open(sys.argv[2], "wb").write(encode(*read(sys.argv[1])))
+    sheet = encode(*read(sys.argv[1]))
+    with open(sys.argv[2], "wb") as out:
+        out.write(sheet)
