@@ -1,5 +1,6 @@
 -- Where every result fits 32 bits, the results are the values.
 use mathlib.Core.Path.{_≡_, refl, sym, ap, subst, _∙_}
+use mathlib.Core.Bool.{Bool}
 use mathlib.Core.List.{List, _∷_, map}
 use Prim.Native.Nat.{ℕ, zero, suc, _+_, _≤_, _<_}
 use native.Mathlib.Omega.{arith}
@@ -17,7 +18,7 @@ use Rattle.element.specs.Cells.{put, tabulate}
 use Rattle.elementwise.specs.declared.operands.Operand.{Operand}
 use Rattle.elementwise.specs.Operands.{placeOf, endOf, along}
 use Rattle.elementwise.specs.Results.{map2, before, collected, Wrote}
-use Rattle.elementwise.specs.Sure.{Within}
+use Rattle.elementwise.specs.Sure.{Within, valueAt, Reads}
 use Rattle.elementwise.proofs.Along.{place-below, along-two}
 use Rattle.elementwise.proofs.Collects.{wrote-as}
 
@@ -50,3 +51,10 @@ module _ (T : List ℤ) (to n : ℕ) (within : to ≤ length T) (value : ℤ →
       let P : Result (List ℤ) ElementFault → Type 0 = λ o. Wrote o T to n r S in
       wrote-as T to n r S (along-two (pos 0) T (take to T) to n within refl f a b left right)
       (subst P (sym (collected-values F G n (λ k h. same _ _ ∙ bounded-within _ (fit-part k h (fit k h))))) (told, is))
+
+-- operands of a known kind, written out
+module _ (f : ℤ → ℤ → ℤ) (a b : Operand) (s t : Bool) (p : a .spread ≡ s) (q : b .spread ≡ t) where
+  pub settled-reads : (U : List ℤ) (n : ℕ) → Reads f U n a b → Reads f U n (record { at = a .at; spread = s }) (record { at = b .at; spread = t })
+  settled-reads U n r =
+      subst (λ (x : Bool). Reads f U n (record { at = a .at; spread = x }) (record { at = b .at; spread = t })) p
+      (subst (λ (y : Bool). Reads f U n a (record { at = b .at; spread = y })) q r)

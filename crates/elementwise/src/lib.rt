@@ -8,3 +8,4 @@ pub mod products;
 pub mod rules;
 pub mod sure;
 pub mod unary;
+pub mod values;

@@ -4,8 +4,8 @@ use Rattle.elementwise.proofs.Along.{place-part}
 use Rattle.elementwise.proofs.Fitting.{fit-part, wrote-values}
 use Rattle.elementwise.proofs.sure.try_combine_sure.Needs as need
 
-pub make-requires : need.make-requires
-make-requires g c κs =
+pub write-values-requires : need.write-values-requires
+write-values-requires g c κs =
     let a = c .args in
     record {
       within = c .pre .within;
@@ -19,5 +19,5 @@ make-requires g c κs =
 pub returns-then-all-fit : need.returns-then-all-fit
 returns-then-all-fit g c =
     let a = c .args in
-    wrote-values (a .table .now) (a .to) (a .n) (omega arith) (g .F·Sure .value (a .op)) (a .a) (a .b) (c .pre .left) (c .pre .right) (g .F·Operator .gives (a .op)) (c .make .last .table) _
-    (c .pre .same) (c .all-fit .ensures (c .if-all-fit .taken)) refl (c .make .ensures)
+    wrote-values (a .table .now) (a .to) (a .n) (omega arith) (g .F·Sure .value (a .op)) (a .a) (a .b) (c .pre .left) (c .pre .right) (g .F·Operator .gives (a .op)) (c .write-values .last .table) _
+    (c .pre .same) (c .all-fit .ensures (c .if-all-fit .taken)) refl (c .write-values .ensures)
