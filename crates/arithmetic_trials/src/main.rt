@@ -1,4 +1,6 @@
 //! Tables of cases: every operator, cast and product, with results that were worked by the rules.
+#![tactic(auto)]
+
 mod casts;
 mod cells;
 mod faults;

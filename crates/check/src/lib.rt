@@ -1,4 +1,6 @@
 //! The check of a sheet: a draft whose rows keep every rule becomes a checked sheet.
+#![tactic(auto)]
+
 mod checked;
 mod checking;
 mod judge;

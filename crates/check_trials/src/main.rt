@@ -1,4 +1,6 @@
 //! Tries check on a table of small sheets, and on sheets made by rule: pairs of types, stray fields, limits.
+#![tactic(auto)]
+
 mod cases;
 mod limits;
 mod pairs;

@@ -1,4 +1,6 @@
 //! The cells of lent tables: what is written once for every kind of cell.
+#![tactic(auto)]
+
 mod booleans;
 pub mod cells;
 mod characters;

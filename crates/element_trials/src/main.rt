@@ -1,4 +1,5 @@
 //! A table of cases: printing, and every operation on cells. The expected lines were worked by hand.
+#![tactic(auto)]
 
 mod choosing;
 mod crossing;

@@ -1,4 +1,6 @@
 //! Operators and casts over the cells of lent tables, element by element, and products.
+#![tactic(auto)]
+
 pub mod binary;
 pub mod casts;
 pub mod infix;

@@ -1,4 +1,6 @@
 //! An expression row at work, whatever it says.
+#![tactic(auto)]
+
 mod evaluating;
 mod operators;
 

@@ -1,4 +1,6 @@
 //! The fault of a row: why it has no result, and where.
+#![tactic(auto)]
+
 mod causes;
 mod faults;
 

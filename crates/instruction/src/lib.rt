@@ -1,4 +1,6 @@
 //! Rows as instructions: what a row says, once its numbers are read.
+#![tactic(auto)]
+
 mod decoding;
 mod fields;
 mod instructions;

@@ -1,4 +1,6 @@
 //! What every row of a sheet means, on values; the slips that tell which values rows hold; and worked examples.
+#![tactic(auto)]
+
 mod after;
 mod examples;
 mod guards;

@@ -1,4 +1,6 @@
 //! Elements picked and stored by indices, which count from 1.
+#![tactic(auto)]
+
 pub mod indices;
 pub mod intervals;
 pub mod operands;

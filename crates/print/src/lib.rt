@@ -1,4 +1,6 @@
 //! Printing of values into a lent output: scalars, vectors, matrices.
+#![tactic(auto)]
+
 mod gaps;
 pub mod lengths;
 pub mod prints;

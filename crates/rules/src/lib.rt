@@ -1,4 +1,6 @@
 //! The rules of kinds, shapes and sizes, one for each row, on the types of its operands alone.
+#![tactic(auto)]
+
 pub mod expressions;
 pub mod operators;
 mod refusal;

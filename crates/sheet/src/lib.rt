@@ -3,6 +3,8 @@
 //! A file is a note, rows of twenty bytes and a trailer of twenty bytes. `load` makes a `Draft` of a
 //! file, `make` one of a head and rows, and `Draft::save` writes one as a file again. All of them work in
 //! memory that the caller brings.
+#![tactic(auto)]
+
 mod bytes;
 mod draft;
 mod head;

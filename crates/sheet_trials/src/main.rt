@@ -1,4 +1,6 @@
 //! Tries load, make and save at and past every limit, and prints a line for each case.
+#![tactic(auto)]
+
 mod files;
 mod loads;
 mod makes;

@@ -1,5 +1,7 @@
 //! Lists the sheet in the file sheet.gps of the current folder, checks its rows, and saves it again to see that
 //! nothing is lost.
+#![tactic(auto)]
+
 use anyhow::anyhow;
 use check::{Line, check};
 use sheet::{Draft, MAX_ROWS, Row, load};

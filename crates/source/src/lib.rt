@@ -1,4 +1,6 @@
 //! Where a sheet's input comes from: sources of bytes, and the values that are read from them.
+#![tactic(auto)]
+
 mod letter;
 mod line;
 mod numeral;

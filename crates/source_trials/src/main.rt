@@ -1,4 +1,6 @@
 //! Trials of sources and reads: a line for each case.
+#![tactic(auto)]
+
 mod back;
 mod pairs;
 mod records;

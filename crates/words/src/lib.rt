@@ -1,4 +1,6 @@
 //! Rows, types and notes in words, for people: each is a value that prints itself.
+#![tactic(auto)]
+
 mod escape;
 mod line;
 mod row;

@@ -1,4 +1,6 @@
 //! Every row, operator and type in words, and notes with bytes that are not printable.
+#![tactic(auto)]
+
 use sheet::{Kind, Row, Shape, Size, Typing};
 use std::io;
 use words::{Escaped, RowWords, TypingWords};
