@@ -5,28 +5,28 @@ use Rattle.changes.proofs.Filling.{filled_2}
 use Rattle.changes.proofs.Assigning.{assign_refused, assign_given, assign_filled}
 use Rattle.changes.proofs.assigns.assign_row.Goals as goal
 
-pub returns-in-err-form : goal.returns-in-err-form
-returns-in-err-form c =
+pub returns-in_err-form : goal.returns-in_err-form
+returns-in_err-form c =
     let a = c.args in
     let p = a.place in
     let t = tables a.booleans.now a.characters.now a.integers.now in
-    let x = c.in-ok-x.x in
-    let y = c.in-ok-y.y in
-    let r = c.from-residual-in-err-form.result in
+    let x = c.in_ok-x.x in
+    let y = c.in_ok-y.y in
+    let r = c.from-residual-in_err-form.result in
     record {
-      filled = filled_2 p a.v a.slips.now t t r a.v a.a assigned x y c.in-ok-x.ensures.is c.in-ok-y.ensures.is
-          (assign_refused p t a.v a.a x y c.in-ok-y.ensures.lawful r c.in-err-form.field-0.0 c.from-residual-in-err-form.ensures.1 c.in-err-form.ensures.is);
-      within = IfOk-from_err r _ c.from-residual-in-err-form.ensures.0;
+      filled = filled_2 p a.v a.slips.now t t r a.v a.a assigned x y c.in_ok-x.ensures.is c.in_ok-y.ensures.is
+          (assign_refused p t a.v a.a x y c.in_ok-y.ensures.lawful r c.in_err-form.field-0.0 c.from-residual-in_err-form.ensures.1 c.in_err-form.ensures.is);
+      within = IfOk-from_err r _ c.from-residual-in_err-form.ensures.0;
     }
 
-pub write-value-requires : goal.write-value-requires
-write-value-requires c =
+pub write_value-requires : goal.write_value-requires
+write_value-requires c =
     let a = c.args in
     let t = tables a.booleans.now a.characters.now a.integers.now in
     record {
       before = c.requires.before;
       under = c.requires.under;
-      given = assign_given a.place t a.v a.a c.in-ok-x.x c.in-ok-y.y c.in-ok-y.ensures.lawful c.in-ok-form.form c.in-ok-form.ensures.is c.in-ok-x.ensures.lawful;
+      given = assign_given a.place t a.v a.a c.in_ok-x.x c.in_ok-y.y c.in_ok-y.ensures.lawful c.in_ok-form.form c.in_ok-form.ensures.is c.in_ok-x.ensures.lawful;
       ample = c.requires.ample;
     }
 
@@ -35,12 +35,12 @@ returns c =
     let a = c.args in
     let p = a.place in
     let t = tables a.booleans.now a.characters.now a.integers.now in
-    let u = tables c.write-value.new.booleans c.write-value.new.characters c.write-value.new.integers in
-    let x = c.in-ok-x.x in
-    let y = c.in-ok-y.y in
-    let form = c.in-ok-form.form in
+    let u = tables c.write_value.new.booleans c.write_value.new.characters c.write_value.new.integers in
+    let x = c.in_ok-x.x in
+    let y = c.in_ok-y.y in
+    let form = c.in_ok-form.form in
     record {
-      filled = filled_2 p a.v a.slips.now t u _ a.v a.a assigned x y c.in-ok-x.ensures.is c.in-ok-y.ensures.is
-          (assign_filled p t a.v a.a x y c.in-ok-y.ensures.lawful form c.in-ok-form.ensures.is c.in-ok-x.ensures.lawful u c.write-value.ensures);
-      within = c.in-ok-form.ensures.within;
+      filled = filled_2 p a.v a.slips.now t u _ a.v a.a assigned x y c.in_ok-x.ensures.is c.in_ok-y.ensures.is
+          (assign_filled p t a.v a.a x y c.in_ok-y.ensures.lawful form c.in_ok-form.ensures.is c.in_ok-x.ensures.lawful u c.write_value.ensures);
+      within = c.in_ok-form.ensures.within;
     }

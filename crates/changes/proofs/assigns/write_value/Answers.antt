@@ -7,16 +7,16 @@ use Rattle.changes.proofs.Taking.{taken_list}
 use Rattle.changes.proofs.Assigning.{given_copy, given_spread, given_unfold, unfold_count}
 use Rattle.changes.proofs.assigns.write_value.Goals as goal
 
-pub copy-down-requires : goal.copy-down-requires
-copy-down-requires c =
+pub copy_down-requires : goal.copy_down-requires
+copy_down-requires c =
     let a = c.args in
     let p = a.place in
     let l = under_all p.width a.v a.a c.requires.under in
     let u = under_all p.width a.a p.row c.requires.before in
     let n = c.area-n.ensures.small in
     let m = c.requires.ample in
-    let f = c.start-of-from.ensures in
-    let t = c.start-of-to.ensures in
+    let f = c.start_of-from.ensures in
+    let t = c.start_of-to.ensures in
     record { above = omega (arith, l, n, f, t); booleans = omega (arith, u, n, f, m.booleans); characters = omega (arith, u, n, f, m.characters); integers = omega (arith, u, n, f, m.integers) }
 
 pub spread-requires : goal.spread-requires
@@ -27,33 +27,33 @@ spread-requires c =
     let u = under_all p.width a.a p.row c.requires.before in
     let n = c.area-n.ensures.small in
     let m = c.requires.ample in
-    let f = c.start-of-from.ensures in
-    let t = c.start-of-to.ensures in
+    let f = c.start_of-from.ensures in
+    let t = c.start_of-to.ensures in
     let s = sym c.if-same-2.ensures in
     let o = one_cell p.width a.a p.row (p.row * p.width + p.width) a.y c.requires.before c.requires.given.value s (omega arith) in
     record {
-      from-booleans = omega (arith, o, f, m.booleans);
-      from-characters = omega (arith, o, f, m.characters);
-      from-integers = omega (arith, o, f, m.integers);
+      from_booleans = omega (arith, o, f, m.booleans);
+      from_characters = omega (arith, o, f, m.characters);
+      from_integers = omega (arith, o, f, m.integers);
       booleans = omega (arith, l, u, n, t, m.booleans);
       characters = omega (arith, l, u, n, t, m.characters);
       integers = omega (arith, l, u, n, t, m.integers);
     }
 
-pub unfold-interval-requires : goal.unfold-interval-requires
-unfold-interval-requires c =
+pub unfold_interval-requires : goal.unfold_interval-requires
+unfold_interval-requires c =
     let a = c.args in
     let p = a.place in
     let tab = tables a.booleans.now a.characters.now a.integers.now in
     let l = under_all p.width a.v a.a c.requires.under in
     let u = under_all p.width a.a p.row c.requires.before in
     let m = c.requires.ample in
-    let f = c.start-of-from.ensures in
-    let t = c.start-of-to.ensures in
+    let f = c.start_of-from.ensures in
+    let t = c.start_of-to.ensures in
     let e = sym c.if-same.ensures in
     let s = sym c.if-same-2.ensures in
     let o = next_cell p.width a.a p.row (length a.integers.now) a.y c.requires.before c.requires.given.value (taken_list (known a.x) a.y c.requires.given.taken e) m.integers in
-    let n = unfold_count p.width tab a.v a.a a.x a.y c.requires.given c.start-of-from.result c.start-of-to.result c.area-n.result f t c.area-n.ensures.value e s in
+    let n = unfold_count p.width tab a.v a.a a.x a.y c.requires.given c.start_of-from.result c.start_of-to.result c.area-n.result f t c.area-n.ensures.value e s in
     record { bounds = omega (arith, o, f); within = omega (arith, n, l, u, t, m.integers) }
 
 pub returns-then-same : goal.returns-then-same
@@ -61,8 +61,8 @@ returns-then-same c =
     let a = c.args in
     let p = a.place in
     let t = tables a.booleans.now a.characters.now a.integers.now in
-    let u = tables c.copy-down.new.booleans c.copy-down.new.characters c.copy-down.new.integers in
-    given_copy p.width t a.v a.a a.x a.y c.requires.given c.start-of-from.result c.start-of-to.result c.area-n.result c.start-of-from.ensures c.start-of-to.ensures c.area-n.ensures.value u (sym c.if-same.ensures) c.copy-down.ensures
+    let u = tables c.copy_down.new.booleans c.copy_down.new.characters c.copy_down.new.integers in
+    given_copy p.width t a.v a.a a.x a.y c.requires.given c.start_of-from.result c.start_of-to.result c.area-n.result c.start_of-from.ensures c.start_of-to.ensures c.area-n.ensures.value u (sym c.if-same.ensures) c.copy_down.ensures
 
 pub returns-then-same-2 : goal.returns-then-same-2
 returns-then-same-2 c =
@@ -70,11 +70,11 @@ returns-then-same-2 c =
     let p = a.place in
     let t = tables a.booleans.now a.characters.now a.integers.now in
     let u = tables c.spread.new.booleans c.spread.new.characters c.spread.new.integers in
-    given_spread p.width t a.v a.a a.x a.y c.requires.given c.start-of-from.result c.start-of-to.result c.area-n.result c.start-of-from.ensures c.start-of-to.ensures c.area-n.ensures.value u (sym c.if-same.ensures) (sym c.if-same-2.ensures) c.spread.ensures
+    given_spread p.width t a.v a.a a.x a.y c.requires.given c.start_of-from.result c.start_of-to.result c.area-n.result c.start_of-from.ensures c.start_of-to.ensures c.area-n.ensures.value u (sym c.if-same.ensures) (sym c.if-same-2.ensures) c.spread.ensures
 
 pub returns-else-same-2 : goal.returns-else-same-2
 returns-else-same-2 c =
     let a = c.args in
     let p = a.place in
     let t = tables a.booleans.now a.characters.now a.integers.now in
-    given_unfold p.width t a.v a.a a.x a.y c.requires.given c.start-of-from.result c.start-of-to.result c.area-n.result c.start-of-from.ensures c.start-of-to.ensures c.area-n.ensures.value (sym c.if-same.ensures) (sym c.if-same-2.ensures) c.unfold-interval.new.integers c.unfold-interval.ensures
+    given_unfold p.width t a.v a.a a.x a.y c.requires.given c.start_of-from.result c.start_of-to.result c.area-n.result c.start_of-from.ensures c.start_of-to.ensures c.area-n.ensures.value (sym c.if-same.ensures) (sym c.if-same-2.ensures) c.unfold_interval.new.integers c.unfold_interval.ensures

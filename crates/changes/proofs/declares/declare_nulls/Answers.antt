@@ -10,12 +10,12 @@ pub returns : goal.returns
 returns c =
     let p = c.args.place in
     let w = c.args.w in
-    let form = c.in-ok-form.form in
+    let form = c.in_ok-form.form in
     let t = tables c.args.booleans.now c.args.characters.now c.args.integers.now in
-    let u = tables c.fill-nulls.new.booleans c.fill-nulls.new.characters c.fill-nulls.new.integers in
-    let e = ap area (form_is p p.row t t (nulls w) form c.in-ok-form.ensures.is) in
+    let u = tables c.fill_nulls.new.booleans c.fill_nulls.new.characters c.fill_nulls.new.integers in
+    let e = ap area (form_is p p.row t t (nulls w) form c.in_ok-form.ensures.is) in
     let ok : ℕ → Result (List (Cell w.kind)) ElementFault = λ n. Ok (replicate n (null_of w.kind)) in
     record {
-      filled = written p p.row t u (nulls w) form c.in-ok-form.ensures.is c.start-of-to.result c.start-of-to.ensures (λ k T. replicate (form.r * form.s) (null_of k)) refl (ap ok e) c.fill-nulls.ensures;
-      within = c.in-ok-form.ensures.within;
+      filled = written p p.row t u (nulls w) form c.in_ok-form.ensures.is c.start_of-to.result c.start_of-to.ensures (λ k T. replicate (form.r * form.s) (null_of k)) refl (ap ok e) c.fill_nulls.ensures;
+      within = c.in_ok-form.ensures.within;
     }

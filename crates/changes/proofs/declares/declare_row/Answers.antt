@@ -5,26 +5,26 @@ use Rattle.changes.proofs.Filling.{filled_1}
 use Rattle.changes.proofs.Declaring.{declare_refused, declare_begun, declare_filled}
 use Rattle.changes.proofs.declares.declare_row.Goals as goal
 
-pub returns-in-err-form : goal.returns-in-err-form
-returns-in-err-form c =
+pub returns-in_err-form : goal.returns-in_err-form
+returns-in_err-form c =
     let a = c.args in
     let p = a.place in
     let t = tables a.booleans.now a.characters.now a.integers.now in
-    let y = c.in-ok-y.y in
-    let r = c.from-residual-in-err-form.result in
+    let y = c.in_ok-y.y in
+    let r = c.from-residual-in_err-form.result in
     record {
-      filled = filled_1 p p.row a.slips.now t t r a.a (declared a.w) y c.in-ok-y.ensures.is
-          (declare_refused p t a.w a.a y c.in-ok-y.ensures.lawful r c.in-err-form.field-0.0 c.from-residual-in-err-form.ensures.1 c.in-err-form.ensures.is);
-      within = IfOk-from_err r _ c.from-residual-in-err-form.ensures.0;
+      filled = filled_1 p p.row a.slips.now t t r a.a (declared a.w) y c.in_ok-y.ensures.is
+          (declare_refused p t a.w a.a y c.in_ok-y.ensures.lawful r c.in_err-form.field-0.0 c.from-residual-in_err-form.ensures.1 c.in_err-form.ensures.is);
+      within = IfOk-from_err r _ c.from-residual-in_err-form.ensures.0;
     }
 
-pub write-beginning-requires : goal.write-beginning-requires
-write-beginning-requires c =
+pub write_beginning-requires : goal.write_beginning-requires
+write_beginning-requires c =
     let a = c.args in
     let t = tables a.booleans.now a.characters.now a.integers.now in
     record {
       before = c.requires.before;
-      begun = declare_begun a.place t a.w a.a c.in-ok-y.y c.in-ok-y.ensures.lawful c.in-ok-form.form c.in-ok-form.ensures.is c.in-ok-form.ensures.within;
+      begun = declare_begun a.place t a.w a.a c.in_ok-y.y c.in_ok-y.ensures.lawful c.in_ok-form.form c.in_ok-form.ensures.is c.in_ok-form.ensures.within;
       ample = c.requires.ample;
     }
 
@@ -33,11 +33,11 @@ returns c =
     let a = c.args in
     let p = a.place in
     let t = tables a.booleans.now a.characters.now a.integers.now in
-    let u = tables c.write-beginning.new.booleans c.write-beginning.new.characters c.write-beginning.new.integers in
-    let y = c.in-ok-y.y in
-    let form = c.in-ok-form.form in
+    let u = tables c.write_beginning.new.booleans c.write_beginning.new.characters c.write_beginning.new.integers in
+    let y = c.in_ok-y.y in
+    let form = c.in_ok-form.form in
     record {
-      filled = filled_1 p p.row a.slips.now t u _ a.a (declared a.w) y c.in-ok-y.ensures.is
-          (declare_filled p t a.w a.a y c.in-ok-y.ensures.lawful form c.in-ok-form.ensures.is u c.write-beginning.ensures);
-      within = c.in-ok-form.ensures.within;
+      filled = filled_1 p p.row a.slips.now t u _ a.a (declared a.w) y c.in_ok-y.ensures.is
+          (declare_filled p t a.w a.a y c.in_ok-y.ensures.lawful form c.in_ok-form.ensures.is u c.write_beginning.ensures);
+      within = c.in_ok-form.ensures.within;
     }

@@ -6,16 +6,16 @@ use Rattle.changes.proofs.Taking.{taken_list}
 use Rattle.changes.proofs.Declaring.{begun_resize, begun_spread, begun_unfold, begun_few}
 use Rattle.changes.proofs.declares.write_beginning.Goals as goal
 
-pub resize-matrix-requires : goal.resize-matrix-requires
-resize-matrix-requires c =
+pub resize_matrix-requires : goal.resize_matrix-requires
+resize_matrix-requires c =
     let a = c.args in
     let p = a.place in
     let u = under_all p.width a.a p.row c.requires.before in
     let n = (lawful_small p.width a.y c.requires.begun.value).elements in
     let s = (within_small p.width a.form c.requires.begun.small).elements in
     let m = c.requires.ample in
-    let f = c.start-of-from.ensures in
-    let t = c.start-of-to.ensures in
+    let f = c.start_of-from.ensures in
+    let t = c.start_of-to.ensures in
     record { below = omega (arith, u, n, f, t); booleans = omega (arith, s, t, m.booleans); characters = omega (arith, s, t, m.characters); integers = omega (arith, s, t, m.integers) }
 
 pub spread-requires : goal.spread-requires
@@ -24,34 +24,34 @@ spread-requires c =
     let p = a.place in
     let n = (within_small p.width a.form c.requires.begun.small).elements in
     let m = c.requires.ample in
-    let f = c.start-of-from.ensures in
-    let t = c.start-of-to.ensures in
+    let f = c.start_of-from.ensures in
+    let t = c.start_of-to.ensures in
     let s = sym c.if-same-2.ensures in
     let o = one_cell p.width a.a p.row (p.row * p.width + p.width) a.y c.requires.before c.requires.begun.value s (omega arith) in
     record {
-      from-booleans = omega (arith, o, f, m.booleans);
-      from-characters = omega (arith, o, f, m.characters);
-      from-integers = omega (arith, o, f, m.integers);
+      from_booleans = omega (arith, o, f, m.booleans);
+      from_characters = omega (arith, o, f, m.characters);
+      from_integers = omega (arith, o, f, m.integers);
       booleans = omega (arith, n, t, m.booleans);
       characters = omega (arith, n, t, m.characters);
       integers = omega (arith, n, t, m.integers);
     }
 
-pub unfold-padded-requires : goal.unfold-padded-requires
-unfold-padded-requires c =
+pub unfold_padded-requires : goal.unfold_padded-requires
+unfold_padded-requires c =
     let a = c.args in
     let p = a.place in
     let tab = tables a.booleans.now a.characters.now a.integers.now in
     let n = (within_small p.width a.form c.requires.begun.small).elements in
     let m = c.requires.ample in
-    let f = c.start-of-from.ensures in
-    let t = c.start-of-to.ensures in
+    let f = c.start_of-from.ensures in
+    let t = c.start_of-to.ensures in
     let e = sym c.if-same.ensures in
     let s = sym c.if-same-2.ensures in
     let o = next_cell p.width a.a p.row (length a.integers.now) a.y c.requires.before c.requires.begun.value (taken_list a.w a.y c.requires.begun.taken e) m.integers in
     record {
       bounds = omega (arith, o, f);
-      few = begun_few p.width tab a.w a.a p.row a.y a.form c.requires.begun c.start-of-from.result c.start-of-to.result f t e s;
+      few = begun_few p.width tab a.w a.a p.row a.y a.form c.requires.begun c.start_of-from.result c.start_of-to.result f t e s;
       within = omega (arith, n, t, m.integers);
     }
 
@@ -60,8 +60,8 @@ returns-then-same c =
     let a = c.args in
     let p = a.place in
     let t = tables a.booleans.now a.characters.now a.integers.now in
-    let u = tables c.resize-matrix.new.booleans c.resize-matrix.new.characters c.resize-matrix.new.integers in
-    begun_resize p.width t a.w a.a p.row a.y a.form c.requires.begun c.start-of-from.result c.start-of-to.result c.start-of-from.ensures c.start-of-to.ensures u (sym c.if-same.ensures) c.resize-matrix.ensures
+    let u = tables c.resize_matrix.new.booleans c.resize_matrix.new.characters c.resize_matrix.new.integers in
+    begun_resize p.width t a.w a.a p.row a.y a.form c.requires.begun c.start_of-from.result c.start_of-to.result c.start_of-from.ensures c.start_of-to.ensures u (sym c.if-same.ensures) c.resize_matrix.ensures
 
 pub returns-then-same-2 : goal.returns-then-same-2
 returns-then-same-2 c =
@@ -69,11 +69,11 @@ returns-then-same-2 c =
     let p = a.place in
     let t = tables a.booleans.now a.characters.now a.integers.now in
     let u = tables c.spread.new.booleans c.spread.new.characters c.spread.new.integers in
-    begun_spread p.width t a.w a.a p.row a.y a.form c.requires.begun c.start-of-from.result c.start-of-to.result c.start-of-from.ensures c.start-of-to.ensures u (sym c.if-same.ensures) (sym c.if-same-2.ensures) c.spread.ensures
+    begun_spread p.width t a.w a.a p.row a.y a.form c.requires.begun c.start_of-from.result c.start_of-to.result c.start_of-from.ensures c.start_of-to.ensures u (sym c.if-same.ensures) (sym c.if-same-2.ensures) c.spread.ensures
 
 pub returns-else-same-2 : goal.returns-else-same-2
 returns-else-same-2 c =
     let a = c.args in
     let p = a.place in
     let t = tables a.booleans.now a.characters.now a.integers.now in
-    begun_unfold p.width t a.w a.a p.row a.y a.form c.requires.begun c.start-of-from.result c.start-of-to.result c.start-of-from.ensures c.start-of-to.ensures (sym c.if-same.ensures) (sym c.if-same-2.ensures) c.unfold-padded.new.integers c.unfold-padded.ensures
+    begun_unfold p.width t a.w a.a p.row a.y a.form c.requires.begun c.start_of-from.result c.start_of-to.result c.start_of-from.ensures c.start_of-to.ensures (sym c.if-same.ensures) (sym c.if-same-2.ensures) c.unfold_padded.new.integers c.unfold_padded.ensures

@@ -7,56 +7,56 @@ use Rattle.changes.proofs.Reading.{next_cell}
 use Rattle.changes.proofs.Storing.{ruled, by_list, store_refused, store_filled, store_above, store_under, store_seen, store_fits}
 use Rattle.changes.proofs.stores.store_row.Goals as goal
 
-pub returns-in-err-form : goal.returns-in-err-form
-returns-in-err-form c =
+pub returns-in_err-form : goal.returns-in_err-form
+returns-in_err-form c =
     let a = c.args in
     let p = a.place in
     let t = tables a.booleans.now a.characters.now a.integers.now in
-    let x = c.in-ok-x.x in
-    let y = c.in-ok-y.y in
-    let z = c.in-ok-z.z in
-    let r = c.from-residual-in-err-form.result in
+    let x = c.in_ok-x.x in
+    let y = c.in_ok-y.y in
+    let z = c.in_ok-z.z in
+    let r = c.from-residual-in_err-form.result in
     record {
-      filled = filled_3 p a.v a.slips.now t t r a.v a.b a.c stored_at x y z c.in-ok-x.ensures.is c.in-ok-y.ensures.is c.in-ok-z.ensures.is
-          (store_refused p t a.v a.b a.c x y z c.in-ok-y.ensures.lawful r c.in-err-form.field-0.0 c.from-residual-in-err-form.ensures.1 c.in-err-form.ensures.is);
-      within = IfOk-from_err r _ c.from-residual-in-err-form.ensures.0;
+      filled = filled_3 p a.v a.slips.now t t r a.v a.b a.c stored_at x y z c.in_ok-x.ensures.is c.in_ok-y.ensures.is c.in_ok-z.ensures.is
+          (store_refused p t a.v a.b a.c x y z c.in_ok-y.ensures.lawful r c.in_err-form.field-0.0 c.from-residual-in_err-form.ensures.1 c.in_err-form.ensures.is);
+      within = IfOk-from_err r _ c.from-residual-in_err-form.ensures.0;
     }
 
-pub list-at-index-requires : goal.list-at-index-requires
-list-at-index-requires c =
+pub list_at-index-requires : goal.list_at-index-requires
+list_at-index-requires c =
     let a = c.args in
     let p = a.place in
     let t = tables a.booleans.now a.characters.now a.integers.now in
-    let x = c.in-ok-x.x in
-    let y = c.in-ok-y.y in
-    let z = c.in-ok-z.z in
-    let ly = c.in-ok-y.ensures.lawful in
+    let x = c.in_ok-x.x in
+    let y = c.in_ok-y.y in
+    let z = c.in_ok-z.z in
+    let ly = c.in_ok-y.ensures.lawful in
     next_cell p.width a.b p.row (length a.integers.now) y c.requires.index ly
-    (by_list x y z (ruled p t a.v a.b a.c x y z ly c.in-ok-form.form c.in-ok-form.ensures.is c.in-ok-x.ensures.lawful c.in-ok-z.ensures.lawful)) c.requires.ample.integers
+    (by_list x y z (ruled p t a.v a.b a.c x y z ly c.in_ok-form.form c.in_ok-form.ensures.is c.in_ok-x.ensures.lawful c.in_ok-z.ensures.lawful)) c.requires.ample.integers
 
 pub store-stored-requires : goal.store-stored-requires
 store-stored-requires c =
     let a = c.args in
     let p = a.place in
     let t = tables a.booleans.now a.characters.now a.integers.now in
-    let x = c.in-ok-x.x in
-    let y = c.in-ok-y.y in
-    let z = c.in-ok-z.z in
-    let lx = c.in-ok-x.ensures.lawful in
-    let ly = c.in-ok-y.ensures.lawful in
-    let lz = c.in-ok-z.ensures.lawful in
-    let form = c.in-ok-form.form in
-    let g = c.in-ok-form.ensures.is in
-    let to = c.start-of-to in
-    let ix = c.list-at-index in
-    let vs = c.values-at-values in
+    let x = c.in_ok-x.x in
+    let y = c.in_ok-y.y in
+    let z = c.in_ok-z.z in
+    let lx = c.in_ok-x.ensures.lawful in
+    let ly = c.in_ok-y.ensures.lawful in
+    let lz = c.in_ok-z.ensures.lawful in
+    let form = c.in_ok-form.form in
+    let g = c.in_ok-form.ensures.is in
+    let to = c.start_of-to in
+    let ix = c.list_at-index in
+    let vs = c.values_at-values in
     record {
-      above = store_above p t a.v a.b a.c x y z ly form g lx lz to.result to.ensures ix.result ix.ensures vs.result vs.ensures c.requires.index c.requires.value c.requires.under-index c.requires.under-value;
-      indices = store_under p t a.v a.b a.c x y z ly form g lx lz to.result to.ensures ix.result ix.ensures vs.result vs.ensures c.requires.index c.requires.value c.requires.under-index c.requires.under-value;
-      seen = store_seen p t a.v a.b a.c x y z ly form g lx lz to.result to.ensures ix.result ix.ensures vs.result vs.ensures c.requires.index c.requires.value c.requires.under-index c.requires.under-value (length a.integers.now) c.requires.ample.integers;
-      booleans = store_fits p t a.v a.b a.c x y z ly form g lx lz to.result to.ensures ix.result ix.ensures vs.result vs.ensures c.requires.index c.requires.value c.requires.under-index c.requires.under-value (length a.booleans.now) c.requires.ample.booleans;
-      characters = store_fits p t a.v a.b a.c x y z ly form g lx lz to.result to.ensures ix.result ix.ensures vs.result vs.ensures c.requires.index c.requires.value c.requires.under-index c.requires.under-value (length a.characters.now) c.requires.ample.characters;
-      integers = store_fits p t a.v a.b a.c x y z ly form g lx lz to.result to.ensures ix.result ix.ensures vs.result vs.ensures c.requires.index c.requires.value c.requires.under-index c.requires.under-value (length a.integers.now) c.requires.ample.integers;
+      above = store_above p t a.v a.b a.c x y z ly form g lx lz to.result to.ensures ix.result ix.ensures vs.result vs.ensures c.requires.index c.requires.value c.requires.under_index c.requires.under_value;
+      indices = store_under p t a.v a.b a.c x y z ly form g lx lz to.result to.ensures ix.result ix.ensures vs.result vs.ensures c.requires.index c.requires.value c.requires.under_index c.requires.under_value;
+      seen = store_seen p t a.v a.b a.c x y z ly form g lx lz to.result to.ensures ix.result ix.ensures vs.result vs.ensures c.requires.index c.requires.value c.requires.under_index c.requires.under_value (length a.integers.now) c.requires.ample.integers;
+      booleans = store_fits p t a.v a.b a.c x y z ly form g lx lz to.result to.ensures ix.result ix.ensures vs.result vs.ensures c.requires.index c.requires.value c.requires.under_index c.requires.under_value (length a.booleans.now) c.requires.ample.booleans;
+      characters = store_fits p t a.v a.b a.c x y z ly form g lx lz to.result to.ensures ix.result ix.ensures vs.result vs.ensures c.requires.index c.requires.value c.requires.under_index c.requires.under_value (length a.characters.now) c.requires.ample.characters;
+      integers = store_fits p t a.v a.b a.c x y z ly form g lx lz to.result to.ensures ix.result ix.ensures vs.result vs.ensures c.requires.index c.requires.value c.requires.under_index c.requires.under_value (length a.integers.now) c.requires.ample.integers;
     }
 
 pub returns : goal.returns
@@ -65,20 +65,20 @@ returns c =
     let p = a.place in
     let t = tables a.booleans.now a.characters.now a.integers.now in
     let u = tables c.store-stored.new.booleans c.store-stored.new.characters c.store-stored.new.integers in
-    let x = c.in-ok-x.x in
-    let y = c.in-ok-y.y in
-    let z = c.in-ok-z.z in
-    let lx = c.in-ok-x.ensures.lawful in
-    let ly = c.in-ok-y.ensures.lawful in
-    let lz = c.in-ok-z.ensures.lawful in
-    let form = c.in-ok-form.form in
-    let g = c.in-ok-form.ensures.is in
-    let to = c.start-of-to in
-    let ix = c.list-at-index in
-    let vs = c.values-at-values in
+    let x = c.in_ok-x.x in
+    let y = c.in_ok-y.y in
+    let z = c.in_ok-z.z in
+    let lx = c.in_ok-x.ensures.lawful in
+    let ly = c.in_ok-y.ensures.lawful in
+    let lz = c.in_ok-z.ensures.lawful in
+    let form = c.in_ok-form.form in
+    let g = c.in_ok-form.ensures.is in
+    let to = c.start_of-to in
+    let ix = c.list_at-index in
+    let vs = c.values_at-values in
     let s = c.store-stored.result in
     record {
-      filled = filled_3 p a.v a.slips.now t u c.indexed.result a.v a.b a.c stored_at x y z c.in-ok-x.ensures.is c.in-ok-y.ensures.is c.in-ok-z.ensures.is
+      filled = filled_3 p a.v a.slips.now t u c.indexed.result a.v a.b a.c stored_at x y z c.in_ok-x.ensures.is c.in_ok-y.ensures.is c.in_ok-z.ensures.is
           (store_filled p t a.v a.b a.c x y z ly form g lx lz to.result to.ensures ix.result ix.ensures vs.result vs.ensures u s c.indexed.result c.store-stored.ensures c.indexed.ensures);
-      within = indexed_within p form s c.indexed.result c.indexed.ensures c.in-ok-form.ensures.within;
+      within = indexed_within p form s c.indexed.result c.indexed.ensures c.in_ok-form.ensures.within;
     }

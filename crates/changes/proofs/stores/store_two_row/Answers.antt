@@ -7,51 +7,51 @@ use Rattle.changes.proofs.Filling.{filled_with, filled_3, refused, indexed_withi
 use Rattle.changes.proofs.StoringTwo.{two_filled, row_below, column_below, value_below, matrix_fits}
 use Rattle.changes.proofs.stores.store_two_row.Goals as goal
 
-pub returns-in-err-form : goal.returns-in-err-form
-returns-in-err-form c =
+pub returns-in_err-form : goal.returns-in_err-form
+returns-in_err-form c =
     let a = c.args in
     let p = a.place in
     let t = tables a.booleans.now a.characters.now a.integers.now in
-    let x = c.in-ok-x.x in
-    let y = c.in-ok-y.y in
-    let z = c.in-ok-z.z in
-    let w = c.in-ok-w.w in
-    let r = c.from-residual-in-err-form.result in
+    let x = c.in_ok-x.x in
+    let y = c.in_ok-y.y in
+    let z = c.in_ok-z.z in
+    let w = c.in_ok-w.w in
+    let r = c.from-residual-in_err-form.result in
     record {
-      filled = filled_with p a.v a.slips.now t t r a.v (λ o. by3 p.width (value_in p.width a.slips.now t) a.b a.c a.d (stored_at_two o)) x c.in-ok-x.ensures.is
-          (filled_3 p a.v a.slips.now t t r a.b a.c a.d (stored_at_two (value_from p.width t a.v x)) y z w c.in-ok-y.ensures.is c.in-ok-z.ensures.is c.in-ok-w.ensures.is
-          (refused p a.v t r c.in-err-form.field-0.0 c.from-residual-in-err-form.ensures.1 (stored_at_two (value_from p.width t a.v x) (value_from p.width t a.b y) (value_from p.width t a.c z) (value_from p.width t a.d w)) c.in-err-form.ensures.is));
-      within = IfOk-from_err r _ c.from-residual-in-err-form.ensures.0;
+      filled = filled_with p a.v a.slips.now t t r a.v (λ o. by3 p.width (value_in p.width a.slips.now t) a.b a.c a.d (stored_at_two o)) x c.in_ok-x.ensures.is
+          (filled_3 p a.v a.slips.now t t r a.b a.c a.d (stored_at_two (value_from p.width t a.v x)) y z w c.in_ok-y.ensures.is c.in_ok-z.ensures.is c.in_ok-w.ensures.is
+          (refused p a.v t r c.in_err-form.field-0.0 c.from-residual-in_err-form.ensures.1 (stored_at_two (value_from p.width t a.v x) (value_from p.width t a.b y) (value_from p.width t a.c z) (value_from p.width t a.d w)) c.in_err-form.ensures.is));
+      within = IfOk-from_err r _ c.from-residual-in_err-form.ensures.0;
     }
 
-pub store-at-cells-stored-requires : goal.store-at-cells-stored-requires
-store-at-cells-stored-requires c =
+pub store_at_cells-stored-requires : goal.store_at_cells-stored-requires
+store_at_cells-stored-requires c =
     let a = c.args in
     let p = a.place in
     let t = tables a.booleans.now a.characters.now a.integers.now in
-    let x = c.in-ok-x.x in
-    let y = c.in-ok-y.y in
-    let z = c.in-ok-z.z in
-    let w = c.in-ok-w.w in
-    let lx = c.in-ok-x.ensures.lawful in
-    let ly = c.in-ok-y.ensures.lawful in
-    let lz = c.in-ok-z.ensures.lawful in
-    let lw = c.in-ok-w.ensures.lawful in
-    let form = c.in-ok-form.form in
-    let g = c.in-ok-form.ensures.is in
-    let to = c.start-of-to in
-    let row = c.start-of-row in
-    let column = c.start-of-column in
-    let from = c.start-of-from in
+    let x = c.in_ok-x.x in
+    let y = c.in_ok-y.y in
+    let z = c.in_ok-z.z in
+    let w = c.in_ok-w.w in
+    let lx = c.in_ok-x.ensures.lawful in
+    let ly = c.in_ok-y.ensures.lawful in
+    let lz = c.in_ok-z.ensures.lawful in
+    let lw = c.in_ok-w.ensures.lawful in
+    let form = c.in_ok-form.form in
+    let g = c.in_ok-form.ensures.is in
+    let to = c.start_of-to in
+    let row = c.start_of-row in
+    let column = c.start_of-column in
+    let from = c.start_of-from in
     let bs = length a.booleans.now in
     let cs = length a.characters.now in
     let is = length a.integers.now in
     record {
       row = row_below p t a.v a.b a.c a.d x y z w form g lx ly lz lw to.result row.result column.result from.result to.ensures row.ensures column.ensures from.ensures is c.requires.ample.integers c.requires.row;
       column = column_below p t a.v a.b a.c a.d x y z w form g lx ly lz lw to.result row.result column.result from.result to.ensures row.ensures column.ensures from.ensures is c.requires.ample.integers c.requires.column;
-      from-booleans = value_below p t a.v a.b a.c a.d x y z w form g lx ly lz lw to.result row.result column.result from.result to.ensures row.ensures column.ensures from.ensures bs c.requires.ample.booleans c.requires.value;
-      from-characters = value_below p t a.v a.b a.c a.d x y z w form g lx ly lz lw to.result row.result column.result from.result to.ensures row.ensures column.ensures from.ensures cs c.requires.ample.characters c.requires.value;
-      from-integers = value_below p t a.v a.b a.c a.d x y z w form g lx ly lz lw to.result row.result column.result from.result to.ensures row.ensures column.ensures from.ensures is c.requires.ample.integers c.requires.value;
+      from_booleans = value_below p t a.v a.b a.c a.d x y z w form g lx ly lz lw to.result row.result column.result from.result to.ensures row.ensures column.ensures from.ensures bs c.requires.ample.booleans c.requires.value;
+      from_characters = value_below p t a.v a.b a.c a.d x y z w form g lx ly lz lw to.result row.result column.result from.result to.ensures row.ensures column.ensures from.ensures cs c.requires.ample.characters c.requires.value;
+      from_integers = value_below p t a.v a.b a.c a.d x y z w form g lx ly lz lw to.result row.result column.result from.result to.ensures row.ensures column.ensures from.ensures is c.requires.ample.integers c.requires.value;
       booleans = matrix_fits p t a.v a.b a.c a.d x y z w form g lx ly lz lw to.result row.result column.result from.result to.ensures row.ensures column.ensures from.ensures bs c.requires.ample.booleans c.requires.before;
       characters = matrix_fits p t a.v a.b a.c a.d x y z w form g lx ly lz lw to.result row.result column.result from.result to.ensures row.ensures column.ensures from.ensures cs c.requires.ample.characters c.requires.before;
       integers = matrix_fits p t a.v a.b a.c a.d x y z w form g lx ly lz lw to.result row.result column.result from.result to.ensures row.ensures column.ensures from.ensures is c.requires.ample.integers c.requires.before;
@@ -62,26 +62,26 @@ returns c =
     let a = c.args in
     let p = a.place in
     let t = tables a.booleans.now a.characters.now a.integers.now in
-    let u = tables c.store-at-cells-stored.new.booleans c.store-at-cells-stored.new.characters c.store-at-cells-stored.new.integers in
-    let x = c.in-ok-x.x in
-    let y = c.in-ok-y.y in
-    let z = c.in-ok-z.z in
-    let w = c.in-ok-w.w in
-    let lx = c.in-ok-x.ensures.lawful in
-    let ly = c.in-ok-y.ensures.lawful in
-    let lz = c.in-ok-z.ensures.lawful in
-    let lw = c.in-ok-w.ensures.lawful in
-    let form = c.in-ok-form.form in
-    let g = c.in-ok-form.ensures.is in
-    let to = c.start-of-to in
-    let row = c.start-of-row in
-    let column = c.start-of-column in
-    let from = c.start-of-from in
-    let s = c.store-at-cells-stored.result in
+    let u = tables c.store_at_cells-stored.new.booleans c.store_at_cells-stored.new.characters c.store_at_cells-stored.new.integers in
+    let x = c.in_ok-x.x in
+    let y = c.in_ok-y.y in
+    let z = c.in_ok-z.z in
+    let w = c.in_ok-w.w in
+    let lx = c.in_ok-x.ensures.lawful in
+    let ly = c.in_ok-y.ensures.lawful in
+    let lz = c.in_ok-z.ensures.lawful in
+    let lw = c.in_ok-w.ensures.lawful in
+    let form = c.in_ok-form.form in
+    let g = c.in_ok-form.ensures.is in
+    let to = c.start_of-to in
+    let row = c.start_of-row in
+    let column = c.start_of-column in
+    let from = c.start_of-from in
+    let s = c.store_at_cells-stored.result in
     let r = c.indexed.result in
     record {
-      filled = filled_with p a.v a.slips.now t u r a.v (λ o. by3 p.width (value_in p.width a.slips.now t) a.b a.c a.d (stored_at_two o)) x c.in-ok-x.ensures.is
-          (filled_3 p a.v a.slips.now t u r a.b a.c a.d (stored_at_two (value_from p.width t a.v x)) y z w c.in-ok-y.ensures.is c.in-ok-z.ensures.is c.in-ok-w.ensures.is
-          (two_filled p t a.v a.b a.c a.d x y z w form g lx ly lz lw to.result row.result column.result from.result to.ensures row.ensures column.ensures from.ensures u s r c.store-at-cells-stored.ensures c.indexed.ensures));
-      within = indexed_within p form s r c.indexed.ensures c.in-ok-form.ensures.within;
+      filled = filled_with p a.v a.slips.now t u r a.v (λ o. by3 p.width (value_in p.width a.slips.now t) a.b a.c a.d (stored_at_two o)) x c.in_ok-x.ensures.is
+          (filled_3 p a.v a.slips.now t u r a.b a.c a.d (stored_at_two (value_from p.width t a.v x)) y z w c.in_ok-y.ensures.is c.in_ok-z.ensures.is c.in_ok-w.ensures.is
+          (two_filled p t a.v a.b a.c a.d x y z w form g lx ly lz lw to.result row.result column.result from.result to.ensures row.ensures column.ensures from.ensures u s r c.store_at_cells-stored.ensures c.indexed.ensures));
+      within = indexed_within p form s r c.indexed.ensures c.in_ok-form.ensures.within;
     }

@@ -7,12 +7,12 @@ use Rattle.check.proofs.Unique.{accepted_once, not_both}
 use Rattle.check.proofs.checking.check.Goals as goal
 
 pub seal-requires : goal.seal-requires
-seal-requires c = of_draft (λ w t rows. Accepted w t rows (vec_items c.check-rows.new.lines)) c.args.draft c.head-head.result c.rows-2.result.now c.head-head.ensures c.rows-2.ensures c.in-Ok.ensures.verdict
+seal-requires c = of_draft (λ w t rows. Accepted w t rows (vec_items c.check_rows.new.lines)) c.args.draft c.head-head.result c.rows-2.result.now c.head-head.ensures c.rows-2.ensures c.in-Ok.ensures.verdict
 
 pub returns-in-Ok : goal.returns-in-Ok
 returns-in-Ok c =
     let d = c.args.draft in
-    let lines = vec_items c.check-rows.new.lines in
+    let lines = vec_items c.check_rows.new.lines in
     let is = ap vec_items c.seal.ensures.lines in
     let fine = of_draft (λ w t rows. Accepted w t rows lines) d c.head-head.result c.rows-2.result.now c.head-head.ensures c.rows-2.ensures c.in-Ok.ensures.verdict in
     let count = ap length c.rows.ensures in
@@ -29,7 +29,7 @@ returns-in-Ok c =
 pub returns-in-Err : goal.returns-in-Err
 returns-in-Err c =
     let d = c.args.draft in
-    let lines = vec_items c.check-rows.new.lines in
+    let lines = vec_items c.check_rows.new.lines in
     let told = c.in-Err.ensures in
     let fault = of_draft (λ w t rows. Faulty w t rows lines c.in-Err.refusal c.in-Err.row) d c.head-head.result c.rows-2.result.now c.head-head.ensures c.rows-2.ensures told.verdict in
     let count = ap length c.rows.ensures in

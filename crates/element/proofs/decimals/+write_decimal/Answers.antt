@@ -5,14 +5,14 @@ use Rattle.element.proofs.decimals.+write_decimal.Goals as goal
 pub bounds-output-at : goal.bounds-output-at
 bounds-output-at t c = omega (arith, length_digit c.args.n (omega arith))
 
-pub write-decimal-last-requires : goal.write-decimal-last-requires
-write-decimal-last-requires t c = let step = length_step c.args.n (omega arith) (omega arith) in search rules
+pub write_decimal-last-requires : goal.write_decimal-last-requires
+write_decimal-last-requires t c = let step = length_step c.args.n (omega arith) (omega arith) in search rules
 
 pub bounds-output-last : goal.bounds-output-last
 bounds-output-last t c = let step = length_step c.args.n (omega arith) (omega arith) in search rules
 
-pub overflow-add-result-else-n-lt10 : goal.overflow-add-result-else-n-lt10
-overflow-add-result-else-n-lt10 t c = let step = length_step c.args.n (omega arith) (omega arith) in search rules
+pub overflow_add-result-else-n-lt10 : goal.overflow_add-result-else-n-lt10
+overflow_add-result-else-n-lt10 t c = let step = length_step c.args.n (omega arith) (omega arith) in search rules
 
 pub returns-then-n-lt10 : goal.returns-then-n-lt10
 returns-then-n-lt10 t c =

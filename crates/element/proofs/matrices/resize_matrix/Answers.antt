@@ -6,14 +6,14 @@ use Rattle.element.proofs.matrices.resize_matrix.Goals as goal
 pub loop-k-init : goal.loop-k-init
 loop-k-init g c = search (rules, paste_none)
 
-pub overflow-mul-k : goal.overflow-mul-k
-overflow-mul-k g c = let h = row_below _ _ c.args.columns c.args.columns c.loop-k-test.true (le_refl _) in search rules
+pub overflow_mul-k : goal.overflow_mul-k
+overflow_mul-k g c = let h = row_below _ _ c.args.columns c.args.columns c.loop-k-test.true (le_refl _) in search rules
 
-pub overflow-add-to : goal.overflow-add-to
-overflow-add-to g c = let h = row_below _ _ c.args.columns c.args.columns c.loop-k-test.true (le_refl _) in search rules
+pub overflow_add-to : goal.overflow_add-to
+overflow_add-to g c = let h = row_below _ _ c.args.columns c.args.columns c.loop-k-test.true (le_refl _) in search rules
 
-pub resize-row-requires : goal.resize-row-requires
-resize-row-requires g c = let h = row_below _ _ c.args.columns c.args.columns c.loop-k-test.true (le_refl _) in search rules
+pub resize_row-requires : goal.resize_row-requires
+resize_row-requires g c = let h = row_below _ _ c.args.columns c.args.columns c.loop-k-test.true (le_refl _) in search rules
 
 pub loop-k-preserved : goal.loop-k-preserved
 loop-k-preserved g c = search (rules, resized_more)

@@ -13,14 +13,14 @@ loop-k-preserved g c = search (rules, copy_more, length_stepped, get_d_stepped, 
 pub returns : goal.returns
 returns g c = search (rules, length_stepped)
 
-pub overflow-mul-table : goal.overflow-mul-table
-overflow-mul-table g c = search (rules, step_within)
+pub overflow_mul-table : goal.overflow_mul-table
+overflow_mul-table g c = search (rules, step_within)
 
-pub overflow-add-table : goal.overflow-add-table
-overflow-add-table g c = search (rules, step_within)
+pub overflow_add-table : goal.overflow_add-table
+overflow_add-table g c = search (rules, step_within)
 
-pub offset-bounds-table-from : goal.offset-bounds-table-from
-offset-bounds-table-from g c = search (rules, step_within)
+pub offset_bounds-table-from : goal.offset_bounds-table-from
+offset_bounds-table-from g c = search (rules, step_within)
 
 pub bounds-table-from : goal.bounds-table-from
 bounds-table-from g c = search (rules, step_within)

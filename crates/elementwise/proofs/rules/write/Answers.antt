@@ -15,7 +15,7 @@ loop-k-preserved g c = let h = c.in-Ok.ensures in search (rules, sofar_more, giv
 pub returns-in-Err : goal.returns-in-Err
 returns-in-Err g c =
     wrote_stops _ _ _ _ _ _ _ _ _ c.loop-k.invariant.1 c.loop-k-test.true (sym (length-map-range_with_len _ 0 c.args.n)) c.requires.within
-    (given_here _ _ _ _ (g.R.Rule.gives c.args.rule.now) _ _ c.loop-k.invariant.1 c.loop-k-test.true (omega arith) ∙ sym c.in-Err.ensures) (ap Err c.at-place.ensures)
+    (given_here _ _ _ _ (g.R.Rule.gives c.args.rule.now) _ _ c.loop-k.invariant.1 c.loop-k-test.true (omega arith) ∙ sym c.in-Err.ensures) (ap Err c.at_place.ensures)
 
 pub returns : goal.returns
 returns g c = search (rules, wrote_all, length-map-range_with_len)

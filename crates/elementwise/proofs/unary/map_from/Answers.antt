@@ -7,5 +7,5 @@ pub returns : goal.returns
 returns g c =
     let a = c.args in
     let S = a.source.now in
-    put_as a.table.now c.make-from.new.table a.to
-    (along_one g.S.Element.null S S (length S) a.n (le_refl _) (sym (take-length S)) (g.F.Function.gives a.of) a.at c.requires.below) c.make-from.ensures
+    put_as a.table.now c.make_from.new.table a.to
+    (along_one g.S.Element.null S S (length S) a.n (le_refl _) (sym (take-length S)) (g.F.Function.gives a.of) a.at c.requires.below) c.make_from.ensures

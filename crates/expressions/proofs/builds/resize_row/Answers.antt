@@ -10,27 +10,27 @@ use Rattle.expressions.proofs.Building.{resize_elements}
 use Rattle.expressions.proofs.Writing.{changed_made}
 use Rattle.expressions.proofs.builds.resize_row.Goals as goal
 
-pub resize-matrix-requires : goal.resize-matrix-requires
-resize-matrix-requires c =
+pub resize_matrix-requires : goal.resize_matrix-requires
+resize_matrix-requires c =
     let p = c.args.place in
     let u = under_all p.width c.args.a p.row c.requires.before in
-    let x = lawful_small p.width c.in-ok-x.x c.in-ok-x.ensures.lawful in
-    let s = within_small p.width c.in-ok-form.form c.in-ok-form.ensures.within in
+    let x = lawful_small p.width c.in_ok-x.x c.in_ok-x.ensures.lawful in
+    let s = within_small p.width c.in_ok-form.form c.in_ok-form.ensures.within in
     record {
-      below = omega (arith, u, x.elements, c.start-of-at.ensures, c.start-of-to.ensures);
-      booleans = omega (arith, s.elements, c.start-of-to.ensures, c.requires.ample.booleans);
-      characters = omega (arith, s.elements, c.start-of-to.ensures, c.requires.ample.characters);
-      integers = omega (arith, s.elements, c.start-of-to.ensures, c.requires.ample.integers);
+      below = omega (arith, u, x.elements, c.start_of-at.ensures, c.start_of-to.ensures);
+      booleans = omega (arith, s.elements, c.start_of-to.ensures, c.requires.ample.booleans);
+      characters = omega (arith, s.elements, c.start_of-to.ensures, c.requires.ample.characters);
+      integers = omega (arith, s.elements, c.start_of-to.ensures, c.requires.ample.integers);
     }
 
 pub returns : goal.returns
 returns c =
     let p = c.args.place in
     let t = tables c.args.booleans.now c.args.characters.now c.args.integers.now in
-    let x = c.in-ok-x.x in
-    let form = c.in-ok-form.form in
-    let g = c.in-ok-form.ensures.is in
-    made_1 p c.args.slips.now t _ _ c.args.a (resized_to c.args.r c.args.s) x c.in-ok-x.ensures.is
-    (changed_made p t _ (resized_to c.args.r c.args.s (value_from p.width t c.args.a x)) form g refl x.kind c.start-of-to.result
-    (λ k T. resized (null_of k) form.r form.s (rows_of x.r x.s (cells T c.start-of-at.result (x.r * x.s)))) refl
-    (resize_elements p t c.args.a c.args.r c.args.s x form g c.start-of-at.result c.start-of-at.ensures) c.start-of-to.ensures c.resize-matrix.ensures)
+    let x = c.in_ok-x.x in
+    let form = c.in_ok-form.form in
+    let g = c.in_ok-form.ensures.is in
+    made_1 p c.args.slips.now t _ _ c.args.a (resized_to c.args.r c.args.s) x c.in_ok-x.ensures.is
+    (changed_made p t _ (resized_to c.args.r c.args.s (value_from p.width t c.args.a x)) form g refl x.kind c.start_of-to.result
+    (λ k T. resized (null_of k) form.r form.s (rows_of x.r x.s (cells T c.start_of-at.result (x.r * x.s)))) refl
+    (resize_elements p t c.args.a c.args.r c.args.s x form g c.start_of-at.result c.start_of-at.ensures) c.start_of-to.ensures c.resize_matrix.ensures)

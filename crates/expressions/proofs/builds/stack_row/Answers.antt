@@ -10,40 +10,40 @@ use Rattle.expressions.proofs.Building.{stack_size, stack_elements}
 use Rattle.expressions.proofs.Writing.{changed_made}
 use Rattle.expressions.proofs.builds.stack_row.Goals as goal
 
-pub returns-in-err-form : goal.returns-in-err-form
-returns-in-err-form c =
-    refused_2 c.args.place c.args.slips.now (tables c.args.booleans.now c.args.characters.now c.args.integers.now) c.from-residual-in-err-form.result c.in-err-form.field-0.0 c.from-residual-in-err-form.ensures.1
-    c.args.a c.args.b stack c.in-ok-x.x c.in-ok-y.y c.in-ok-x.ensures.is c.in-ok-y.ensures.is c.in-err-form.ensures.is
+pub returns-in_err-form : goal.returns-in_err-form
+returns-in_err-form c =
+    refused_2 c.args.place c.args.slips.now (tables c.args.booleans.now c.args.characters.now c.args.integers.now) c.from-residual-in_err-form.result c.in_err-form.field-0.0 c.from-residual-in_err-form.ensures.1
+    c.args.a c.args.b stack c.in_ok-x.x c.in_ok-y.y c.in_ok-x.ensures.is c.in_ok-y.ensures.is c.in_err-form.ensures.is
 
 pub stack-requires : goal.stack-requires
 stack-requires c =
     let p = c.args.place in
     let t = tables c.args.booleans.now c.args.characters.now c.args.integers.now in
-    let x = c.in-ok-x.x in
-    let y = c.in-ok-y.y in
+    let x = c.in_ok-x.x in
+    let y = c.in_ok-y.y in
     let l = under_all p.width c.args.a p.row c.requires.left in
     let r = under_all p.width c.args.b p.row c.requires.right in
-    let sx = lawful_small p.width x c.in-ok-x.ensures.lawful in
-    let sy = lawful_small p.width y c.in-ok-y.ensures.lawful in
-    let s = within_small p.width c.in-ok-form.form c.in-ok-form.ensures.within in
-    let e = stack_size p t c.args.a c.args.b x y c.in-ok-form.form c.in-ok-form.ensures.is c.in-ok-y.ensures.lawful c.start-of-upper.result c.start-of-lower.result c.start-of-upper.ensures c.start-of-lower.ensures in
+    let sx = lawful_small p.width x c.in_ok-x.ensures.lawful in
+    let sy = lawful_small p.width y c.in_ok-y.ensures.lawful in
+    let s = within_small p.width c.in_ok-form.form c.in_ok-form.ensures.within in
+    let e = stack_size p t c.args.a c.args.b x y c.in_ok-form.form c.in_ok-form.ensures.is c.in_ok-y.ensures.lawful c.start_of-upper.result c.start_of-lower.result c.start_of-upper.ensures c.start_of-lower.ensures in
     record {
-      upper = omega (arith, l, sx.elements, c.start-of-upper.ensures, c.start-of-to.ensures);
-      lower = omega (arith, r, sy.columns, c.start-of-lower.ensures, c.start-of-to.ensures);
-      booleans = omega (arith, e, s.elements, c.start-of-to.ensures, c.requires.ample.booleans);
-      characters = omega (arith, e, s.elements, c.start-of-to.ensures, c.requires.ample.characters);
-      integers = omega (arith, e, s.elements, c.start-of-to.ensures, c.requires.ample.integers);
+      upper = omega (arith, l, sx.elements, c.start_of-upper.ensures, c.start_of-to.ensures);
+      lower = omega (arith, r, sy.columns, c.start_of-lower.ensures, c.start_of-to.ensures);
+      booleans = omega (arith, e, s.elements, c.start_of-to.ensures, c.requires.ample.booleans);
+      characters = omega (arith, e, s.elements, c.start_of-to.ensures, c.requires.ample.characters);
+      integers = omega (arith, e, s.elements, c.start_of-to.ensures, c.requires.ample.integers);
     }
 
 pub returns : goal.returns
 returns c =
     let p = c.args.place in
     let t = tables c.args.booleans.now c.args.characters.now c.args.integers.now in
-    let x = c.in-ok-x.x in
-    let y = c.in-ok-y.y in
-    let form = c.in-ok-form.form in
-    let g = c.in-ok-form.ensures.is in
-    made_2 p c.args.slips.now t _ _ c.args.a c.args.b stack x y c.in-ok-x.ensures.is c.in-ok-y.ensures.is
-    (changed_made p t _ (stack (value_from p.width t c.args.a x) (value_from p.width t c.args.b y)) form g refl x.kind c.start-of-to.result
-    (λ k T. stacked (null_of k) (max x.s y.s) (rows_of x.r x.s (cells T c.start-of-upper.result (x.r * x.s))) (cells T c.start-of-lower.result y.s)) refl
-    (stack_elements p t c.args.a c.args.b x y form g c.in-ok-y.ensures.lawful c.start-of-upper.result c.start-of-lower.result c.start-of-upper.ensures c.start-of-lower.ensures) c.start-of-to.ensures c.stack.ensures)
+    let x = c.in_ok-x.x in
+    let y = c.in_ok-y.y in
+    let form = c.in_ok-form.form in
+    let g = c.in_ok-form.ensures.is in
+    made_2 p c.args.slips.now t _ _ c.args.a c.args.b stack x y c.in_ok-x.ensures.is c.in_ok-y.ensures.is
+    (changed_made p t _ (stack (value_from p.width t c.args.a x) (value_from p.width t c.args.b y)) form g refl x.kind c.start_of-to.result
+    (λ k T. stacked (null_of k) (max x.s y.s) (rows_of x.r x.s (cells T c.start_of-upper.result (x.r * x.s))) (cells T c.start_of-lower.result y.s)) refl
+    (stack_elements p t c.args.a c.args.b x y form g c.in_ok-y.ensures.lawful c.start_of-upper.result c.start_of-lower.result c.start_of-upper.ensures c.start_of-lower.ensures) c.start_of-to.ensures c.stack.ensures)

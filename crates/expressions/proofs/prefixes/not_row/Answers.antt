@@ -10,30 +10,30 @@ use Rattle.expressions.proofs.Prefixing.{own_cells, own_below}
 use Rattle.expressions.proofs.Writing.{value_made}
 use Rattle.expressions.proofs.prefixes.not_row.Goals as goal
 
-pub returns-in-err-form : goal.returns-in-err-form
-returns-in-err-form c cs is =
-    refused_1 c.args.place c.args.slips.now (tables c.args.booleans.now cs is) c.from-residual-in-err-form.result c.in-err-form.field-0.0 c.from-residual-in-err-form.ensures.1
-    c.args.a (prefixed Not) c.in-ok-x.x c.in-ok-x.ensures.is c.in-err-form.ensures.is
+pub returns-in_err-form : goal.returns-in_err-form
+returns-in_err-form c cs is =
+    refused_1 c.args.place c.args.slips.now (tables c.args.booleans.now cs is) c.from-residual-in_err-form.result c.in_err-form.field-0.0 c.from-residual-in_err-form.ensures.1
+    c.args.a (prefixed Not) c.in_ok-x.x c.in_ok-x.ensures.is c.in_err-form.ensures.is
 
-pub overflow-mul-form : goal.overflow-mul-form
-overflow-mul-form c = let s = within_small c.args.place.width c.in-ok-form.form c.in-ok-form.ensures.within in omega (arith, s.elements)
+pub overflow_mul-form : goal.overflow_mul-form
+overflow_mul-form c = let s = within_small c.args.place.width c.in_ok-form.form c.in_ok-form.ensures.within in omega (arith, s.elements)
 
 pub not-requires : goal.not-requires
 not-requires c =
     let p = c.args.place in
-    let s = within_small p.width c.in-ok-form.form c.in-ok-form.ensures.within in
+    let s = within_small p.width c.in_ok-form.form c.in_ok-form.ensures.within in
     record {
-      below = own_below p Boolean (tables c.args.booleans.now [] []) c.args.a c.in-ok-x.x c.in-ok-form.form c.in-ok-form.ensures.is c.start-of-at.result c.start-of-to.result c.start-of-at.ensures c.start-of-to.ensures c.requires.before s.elements;
-      within = omega (arith, s.elements, c.start-of-to.ensures, c.requires.ample);
+      below = own_below p Boolean (tables c.args.booleans.now [] []) c.args.a c.in_ok-x.x c.in_ok-form.form c.in_ok-form.ensures.is c.start_of-at.result c.start_of-to.result c.start_of-at.ensures c.start_of-to.ensures c.requires.before s.elements;
+      within = omega (arith, s.elements, c.start_of-to.ensures, c.requires.ample);
     }
 
 pub returns : goal.returns
 returns c cs is =
     let p = c.args.place in
-    let x = c.in-ok-x.x in
-    let form = c.in-ok-form.form in
+    let x = c.in_ok-x.x in
+    let form = c.in_ok-form.form in
     let t = tables c.args.booleans.now cs is in
     let ok : List Bool → Result (List Bool) ElementFault = λ xs. Ok (map not xs) in
-    let e = ap ok (own_cells p Boolean t c.args.a x form c.in-ok-form.ensures.is c.start-of-at.result c.start-of-at.ensures) in
-    made_1 p c.args.slips.now t _ _ c.args.a (prefixed Not) x c.in-ok-x.ensures.is
-    (value_made p t (prefixed Not (value_from p.width t c.args.a x)) form c.in-ok-form.ensures.is refl _ c.start-of-to.result _ e c.start-of-to.ensures c.not.ensures)
+    let e = ap ok (own_cells p Boolean t c.args.a x form c.in_ok-form.ensures.is c.start_of-at.result c.start_of-at.ensures) in
+    made_1 p c.args.slips.now t _ _ c.args.a (prefixed Not) x c.in_ok-x.ensures.is
+    (value_made p t (prefixed Not (value_from p.width t c.args.a x)) form c.in_ok-form.ensures.is refl _ c.start_of-to.result _ e c.start_of-to.ensures c.not.ensures)

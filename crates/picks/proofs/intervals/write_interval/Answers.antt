@@ -12,7 +12,7 @@ loop-k-preserved c =
     let low = c.ranges.low in
     let high = c.ranges.high in
     let count = simp to_z-of_z at c.span-count.ensures in
-    let value = simp to_z-of_z at c.nth-between.ensures in
+    let value = simp to_z-of_z at c.nth_between.ensures in
     search (rules, write_more, length-map-range_with_len, get_or-map-range_with_len)
 
 pub returns : goal.returns

@@ -12,8 +12,8 @@ use Rattle.picks.proofs.picks.pick_inside.Goals as goal
 pub loop-k-init : goal.loop-k-init
 loop-k-init g c = search (rules, paste_none)
 
-pub place-at-place-requires : goal.place-at-place-requires
-place-at-place-requires g c =
+pub place_at-place-requires : goal.place_at-place-requires
+place_at-place-requires g c =
     let a = c.args in
     let i = g.I.Integers in
     let js = indices_of a.index (i.seen a.integers.now a.table.now) in
@@ -36,8 +36,8 @@ loop-k-preserved g c =
     let low = ap (take a.to) c.loop-k.invariant ∙ take_below a.table.now a.to new c.loop-k.k a.to (omega arith) (omega arith) in
     let same = still_below i.seen i.kept i.long a.integers.now a.index a.table.now c.loop-k.table a.to c.requires.indices low in
     let l : length js ≡ index_count a.index = length_indices a.index (i.seen a.integers.now a.table.now) c.requires.seen in
-    pick_more g.E.Element.null a.table.now a.from a.have a.to js c.loop-k.table c.loop-k.k c.place-at-place.result c.index-table-from.result c.loop-k.invariant c.index-table-from.is
-    (c.place-at-place.ensures.value ∙ ap (λ (zs : List ℤ). place_of (get_or zs c.loop-k.k (pos 0))) same) c.place-at-place.ensures.bound c.requires.below (omega arith) (omega arith)
+    pick_more g.E.Element.null a.table.now a.from a.have a.to js c.loop-k.table c.loop-k.k c.place_at-place.result c.index-table-from.result c.loop-k.invariant c.index-table-from.is
+    (c.place_at-place.ensures.value ∙ ap (λ (zs : List ℤ). place_of (get_or zs c.loop-k.k (pos 0))) same) c.place_at-place.ensures.bound c.requires.below (omega arith) (omega arith)
 
 pub returns : goal.returns
 returns g c =

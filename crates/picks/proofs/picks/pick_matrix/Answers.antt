@@ -3,8 +3,8 @@ use Rattle.picks.specs.Indices.{indices_of, first_outside}
 use Rattle.picks.proofs.Indexing.{all_inside, neither_rows, neither_columns}
 use Rattle.picks.proofs.picks.pick_matrix.Goals as goal
 
-pub cross-inside-requires : goal.cross-inside-requires
-cross-inside-requires g c =
+pub cross_inside-requires : goal.cross_inside-requires
+cross_inside-requires g c =
     let a = c.args in
     let h = c.requires in
     let is = indices_of a.rows (g.I.Integers.seen a.integers.now a.table.now) in
@@ -13,11 +13,11 @@ cross-inside-requires g c =
     let columns = first_outside (length is + 1) a.s js in
     record {
       below = h.below;
-      rows-below = h.rows-below;
-      columns-below = h.columns-below;
+      rows_below = h.rows_below;
+      columns_below = h.columns_below;
       rows_seen = h.rows_seen;
-      columns-seen = h.columns-seen;
+      columns_seen = h.columns_seen;
       rows_inside = all_inside 1 a.r is (neither_rows rows columns c.in-None.ensures);
-      columns-inside = all_inside (length is + 1) a.s js (neither_columns rows columns c.in-None.ensures);
+      columns_inside = all_inside (length is + 1) a.s js (neither_columns rows columns c.in-None.ensures);
       within = h.within;
     }

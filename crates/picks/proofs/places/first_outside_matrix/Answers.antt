@@ -7,4 +7,4 @@ returns-in-None g c =
     let a = c.args in
     let js = indices_of a.columns (g.I.Integers.seen a.integers.now a.table.now) in
     let is = indices_of a.rows (g.I.Integers.seen a.integers.now a.table.now) in
-    outside_columns a.r a.s is js c.count.result _ _ c.in-None.ensures c.count.ensures (length_indices c.args.rows (g.I.Integers.seen c.args.integers.now c.args.table.now) c.requires.rows) c.first-outside-in-None.ensures
+    outside_columns a.r a.s is js c.count.result _ _ c.in-None.ensures c.count.ensures (length_indices c.args.rows (g.I.Integers.seen c.args.integers.now c.args.table.now) c.requires.rows) c.first_outside-in-None.ensures

@@ -3,7 +3,7 @@ use Rattle.std.proofs.Common.{w32}
 use Rattle.picks.proofs.Indexing.{inside_at, length_indices}
 use Rattle.picks.proofs.places.place_at.Goals as goal
 
-pub place-of-requires : goal.place-of-requires
-place-of-requires g c =
-    inside_at _ _ _ c.index-at.result _ _ c.requires.inside (length_indices c.args.index (g.I.Integers.seen c.args.integers.now c.args.table.now) c.requires.within) c.requires.one
-    (to_z-of_z w32 c.index-at.result (record { sfits = c.index-at.type-inv })) c.index-at.ensures
+pub place_of-requires : goal.place_of-requires
+place_of-requires g c =
+    inside_at _ _ _ c.index_at.result _ _ c.requires.inside (length_indices c.args.index (g.I.Integers.seen c.args.integers.now c.args.table.now) c.requires.within) c.requires.one
+    (to_z-of_z w32 c.index_at.result (record { sfits = c.index_at.type_inv })) c.index_at.ensures

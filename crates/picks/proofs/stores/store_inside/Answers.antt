@@ -10,8 +10,8 @@ use Rattle.picks.proofs.stores.store_inside.Goals as goal
 pub loop-k-init : goal.loop-k-init
 loop-k-init g c = put_same c.args.table.now c.args.to c.args.have (omega arith)
 
-pub place-at-place-requires : goal.place-at-place-requires
-place-at-place-requires g c =
+pub place_at-place-requires : goal.place_at-place-requires
+place_at-place-requires g c =
     let a = c.args in
     let i = g.I.Integers in
     let T = a.table.now in
@@ -42,9 +42,9 @@ loop-k-preserved g c =
     let l = length_stored xs js vs ∙ length_cells T a.to a.have (omega arith) in
     let high = ap (drop (a.to + a.have)) c.loop-k.invariant ∙ drop_above T (stored xs js vs) a.to a.have l (omega arith) in
     let same = still_above i.seen i.kept i.long a.integers.now a.index T c.loop-k.table (a.to + a.have) c.requires.indices high in
-    store_more null T c.loop-k.table a.to a.have n all a.values c.loop-k.k c.place-at-place.result c.index-table-place.result
+    store_more null T c.loop-k.table a.to a.have n all a.values c.loop-k.k c.place_at-place.result c.index-table-place.result
     (length_indices a.index (i.seen a.integers.now T) c.requires.seen) (omega arith) c.requires.above c.requires.within
-    (c.place-at-place.ensures.value ∙ ap (λ (zs : List ℤ). place_of (get_or zs c.loop-k.k (pos 0))) same) c.place-at-place.ensures.bound c.loop-k.invariant
+    (c.place_at-place.ensures.value ∙ ap (λ (zs : List ℤ). place_of (get_or zs c.loop-k.k (pos 0))) same) c.place_at-place.ensures.bound c.loop-k.invariant
     (c.index-table-place.is ∙ ap (λ (p : ℕ). get_or c.loop-k.table p c.index-table-place.result) c.place.ensures)
 
 pub returns : goal.returns

@@ -6,15 +6,15 @@ use Rattle.print.specs.Texts.{spaced, vector_text}
 use Rattle.print.proofs.Spaces.{length_spaced_more, length_bracketed, row_text, length_rows}
 use Rattle.print.proofs.lengths.matrix_len.Goals as goal
 
-pub overflow-add-at : goal.overflow-add-at
-overflow-add-at g c =
+pub overflow_add-at : goal.overflow_add-at
+overflow_add-at g c =
     let a = c.args in
     let k = c.loop-k.k in
     let low = row_below k a.r a.s a.s (omega arith) (le_refl _) in
     search rules
 
-pub vector-len-requires : goal.vector-len-requires
-vector-len-requires g c =
+pub vector_len-requires : goal.vector_len-requires
+vector_len-requires g c =
     let a = c.args in
     let k = c.loop-k.k in
     let low = row_below k a.r a.s a.s (omega arith) (le_refl _) in

@@ -9,8 +9,8 @@ use Rattle.print.proofs.writes.write_matrix.Goals as goal
 pub loop-k-init : goal.loop-k-init
 loop-k-init g c = (paste_none (set c.args.output.now c.args.from 91) (c.args.from + 1) [], omega arith)
 
-pub write-gap-start-requires : goal.write-gap-start-requires
-write-gap-start-requires g c =
+pub write_gap-start-requires : goal.write_gap-start-requires
+write_gap-start-requires g c =
     let a = c.args in
     let k = c.loop-k.k in
     let text = g.E.Element.text in
@@ -19,22 +19,22 @@ write-gap-start-requires g c =
     let fit = text_fits a.from c.loop-k.end (length a.output.now) ts k (omega arith) c.loop-k.invariant.1 c.requires.fits in
     search rules
 
-pub overflow-mul-k : goal.overflow-mul-k
-overflow-mul-k g c =
+pub overflow_mul-k : goal.overflow_mul-k
+overflow_mul-k g c =
     let a = c.args in
     let k = c.loop-k.k in
     let low = row_below k a.r a.s a.s (omega arith) (le_refl _) in
     search rules
 
-pub overflow-add-at : goal.overflow-add-at
-overflow-add-at g c =
+pub overflow_add-at : goal.overflow_add-at
+overflow_add-at g c =
     let a = c.args in
     let k = c.loop-k.k in
     let low = row_below k a.r a.s a.s (omega arith) (le_refl _) in
     search rules
 
-pub write-vector-end-requires : goal.write-vector-end-requires
-write-vector-end-requires g c =
+pub write_vector-end-requires : goal.write_vector-end-requires
+write_vector-end-requires g c =
     let a = c.args in
     let k = c.loop-k.k in
     let text = g.E.Element.text in
@@ -55,9 +55,9 @@ loop-k-preserved g c =
     let l = length_rows text a.table.now a.at a.r a.s in
     let is = row_text text a.table.now a.at a.r a.s k (omega arith) in
     let t = vector_text text (cells a.table.now (a.at + k * a.s) a.s) in (
-      text_more (set a.output.now a.from 91) c.loop-k.output c.write-gap-start.new.output c.write-vector-end.new.output (a.from + 1) c.loop-k.end c.write-gap-start.result ts k t
-          (omega arith) (search rules) c.loop-k.invariant.0 c.loop-k.invariant.1 c.write-gap-start.ensures.written c.write-gap-start.ensures.end c.write-vector-end.ensures.written is,
-      end_more (a.from + 1) c.loop-k.end c.write-gap-start.result c.write-vector-end.result ts k t (omega arith) c.loop-k.invariant.1 c.write-gap-start.ensures.end c.write-vector-end.ensures.end is,
+      text_more (set a.output.now a.from 91) c.loop-k.output c.write_gap-start.new.output c.write_vector-end.new.output (a.from + 1) c.loop-k.end c.write_gap-start.result ts k t
+          (omega arith) (search rules) c.loop-k.invariant.0 c.loop-k.invariant.1 c.write_gap-start.ensures.written c.write_gap-start.ensures.end c.write_vector-end.ensures.written is,
+      end_more (a.from + 1) c.loop-k.end c.write_gap-start.result c.write_vector-end.result ts k t (omega arith) c.loop-k.invariant.1 c.write_gap-start.ensures.end c.write_vector-end.ensures.end is,
     )
 
 pub bounds-output-end : goal.bounds-output-end
@@ -70,8 +70,8 @@ bounds-output-end g c =
     let all = bracket_end a.from c.loop-k.end k ts (omega arith) c.loop-k.invariant.1 in
     search rules
 
-pub overflow-add-result : goal.overflow-add-result
-overflow-add-result g c =
+pub overflow_add-result : goal.overflow_add-result
+overflow_add-result g c =
     let a = c.args in
     let k = c.loop-k.k in
     let text = g.E.Element.text in

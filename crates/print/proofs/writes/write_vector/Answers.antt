@@ -8,8 +8,8 @@ use Rattle.print.proofs.writes.write_vector.Goals as goal
 pub loop-k-init : goal.loop-k-init
 loop-k-init g c = (paste_none (set c.args.output.now c.args.from 91) (c.args.from + 1) [], omega arith)
 
-pub write-gap-start-requires : goal.write-gap-start-requires
-write-gap-start-requires g c =
+pub write_gap-start-requires : goal.write_gap-start-requires
+write_gap-start-requires g c =
     let a = c.args in
     let k = c.loop-k.k in
     let text = g.E.Element.text in
@@ -18,8 +18,8 @@ write-gap-start-requires g c =
     let fit = text_fits a.from c.loop-k.end (length a.output.now) ts k (omega arith) c.loop-k.invariant.1 c.requires.fits in
     search rules
 
-pub write-text-end-requires : goal.write-text-end-requires
-write-text-end-requires g c =
+pub write_text-end-requires : goal.write_text-end-requires
+write_text-end-requires g c =
     let a = c.args in
     let k = c.loop-k.k in
     let text = g.E.Element.text in
@@ -38,9 +38,9 @@ loop-k-preserved g c =
     let ts = map text (cells a.table.now a.at a.n) in
     let l = length_texts text a.table.now a.at a.n c.requires.within in
     let is = text_at text a.table.now a.at a.n k c.index-table-at.result (omega arith) c.requires.within c.index-table-at.is in (
-      text_more (set a.output.now a.from 91) c.loop-k.output c.write-gap-start.new.output c.write-text-end.new.output (a.from + 1) c.loop-k.end c.write-gap-start.result ts k (text c.index-table-at.result)
-          (omega arith) (search rules) c.loop-k.invariant.0 c.loop-k.invariant.1 c.write-gap-start.ensures.written c.write-gap-start.ensures.end c.write-text-end.ensures.written is,
-      end_more (a.from + 1) c.loop-k.end c.write-gap-start.result c.write-text-end.result ts k (text c.index-table-at.result) (omega arith) c.loop-k.invariant.1 c.write-gap-start.ensures.end c.write-text-end.ensures.end is,
+      text_more (set a.output.now a.from 91) c.loop-k.output c.write_gap-start.new.output c.write_text-end.new.output (a.from + 1) c.loop-k.end c.write_gap-start.result ts k (text c.index-table-at.result)
+          (omega arith) (search rules) c.loop-k.invariant.0 c.loop-k.invariant.1 c.write_gap-start.ensures.written c.write_gap-start.ensures.end c.write_text-end.ensures.written is,
+      end_more (a.from + 1) c.loop-k.end c.write_gap-start.result c.write_text-end.result ts k (text c.index-table-at.result) (omega arith) c.loop-k.invariant.1 c.write_gap-start.ensures.end c.write_text-end.ensures.end is,
     )
 
 pub bounds-output-end : goal.bounds-output-end
@@ -53,8 +53,8 @@ bounds-output-end g c =
     let all = bracket_end a.from c.loop-k.end k ts (omega arith) c.loop-k.invariant.1 in
     search rules
 
-pub overflow-add-result : goal.overflow-add-result
-overflow-add-result g c =
+pub overflow_add-result : goal.overflow_add-result
+overflow_add-result g c =
     let a = c.args in
     let k = c.loop-k.k in
     let text = g.E.Element.text in

@@ -32,7 +32,7 @@ pub returns-in-StoreTwo : goal.returns-in-StoreTwo
 returns-in-StoreTwo g c =
     let here = state_of c.args.taken.now c.args.stream.now c.args.slips.now c.args.booleans.now c.args.characters.now c.args.integers.now (g.S.Source.waiting c.args.source.now) c.args.output.now c.args.printed.now in
     record {
-      does = by_change c.args.place c.args.head c.args.change (change.StoreTwo c.in-StoreTwo.v c.in-StoreTwo.b c.in-StoreTwo.c c.in-StoreTwo.d) here _ c.in-StoreTwo.is (c.store-two.ensures c.args.head here);
+      does = by_change c.args.place c.args.head c.args.change (change.StoreTwo c.in-StoreTwo.v c.in-StoreTwo.b c.in-StoreTwo.c c.in-StoreTwo.d) here _ c.in-StoreTwo.is (c.store_two.ensures c.args.head here);
       room = c.requires.room;
     }
 
@@ -40,15 +40,15 @@ pub returns-in-Print : goal.returns-in-Print
 returns-in-Print g c =
     let here = state_of c.args.taken.now c.args.stream.now c.args.slips.now c.args.booleans.now c.args.characters.now c.args.integers.now (g.S.Source.waiting c.args.source.now) c.args.output.now c.args.printed.now in
     record {
-      does = by_change c.args.place c.args.head c.args.change (change.Print c.in-Print.a) here _ c.in-Print.is (c.print-row.ensures.row here);
-      room = c.print-row.ensures.room;
+      does = by_change c.args.place c.args.head c.args.change (change.Print c.in-Print.a) here _ c.in-Print.is (c.print_row.ensures.row here);
+      room = c.print_row.ensures.room;
     }
 
 pub returns-in-Read : goal.returns-in-Read
 returns-in-Read g c =
     let here = state_of c.args.taken.now c.args.stream.now c.args.slips.now c.args.booleans.now c.args.characters.now c.args.integers.now (g.S.Source.waiting c.args.source.now) c.args.output.now c.args.printed.now in
     record {
-      does = by_change c.args.place c.args.head c.args.change (change.Read c.in-Read.v) here _ c.in-Read.is (c.read-row.ensures here);
+      does = by_change c.args.place c.args.head c.args.change (change.Read c.in-Read.v) here _ c.in-Read.is (c.read_row.ensures here);
       room = c.requires.room;
     }
 
@@ -56,6 +56,6 @@ pub returns-in-Return : goal.returns-in-Return
 returns-in-Return g c =
     let here = state_of c.args.taken.now c.args.stream.now c.args.slips.now c.args.booleans.now c.args.characters.now c.args.integers.now (g.S.Source.waiting c.args.source.now) c.args.output.now c.args.printed.now in
     record {
-      does = by_change c.args.place c.args.head c.args.change (change.Return c.in-Return.a) here _ c.in-Return.is (c.return-row.ensures here here.tables);
+      does = by_change c.args.place c.args.head c.args.change (change.Return c.in-Return.a) here _ c.in-Return.is (c.return_row.ensures here here.tables);
       room = c.requires.room;
     }

@@ -2,13 +2,13 @@ use Rattle.std.proofs.Common.{arith}
 use Rattle.meaning.proofs.Rows.{under_all}
 use Rattle.selections.proofs.equalities.are_equal.Goals as goal
 
-pub equal-throughout-requires : goal.equal-throughout-requires
-equal-throughout-requires c =
+pub equal_throughout-requires : goal.equal_throughout-requires
+equal_throughout-requires c =
     let p = c.args.place in
     let l = under_all p.width c.args.a p.row c.requires.left in
     let r = under_all p.width c.args.b p.row c.requires.right in
-    let el = c.start-of-left.ensures in
-    let er = c.start-of-right.ensures in
+    let el = c.start_of-left.ensures in
+    let er = c.start_of-right.ensures in
     let few = c.area-many.ensures.small in
     record {
       scalar-booleans = omega (arith, r, er, c.requires.wide, c.requires.ample.booleans);
@@ -19,13 +19,13 @@ equal-throughout-requires c =
       integers = omega (arith, l, el, few, c.requires.ample.integers);
     }
 
-pub equal-throughout-requires-then-same-2 : goal.equal-throughout-requires-then-same-2
-equal-throughout-requires-then-same-2 c =
+pub equal_throughout-requires-then-same-2 : goal.equal_throughout-requires-then-same-2
+equal_throughout-requires-then-same-2 c =
     let p = c.args.place in
     let l = under_all p.width c.args.a p.row c.requires.left in
     let r = under_all p.width c.args.b p.row c.requires.right in
-    let el = c.start-of-left.ensures in
-    let er = c.start-of-right.ensures in
+    let el = c.start_of-left.ensures in
+    let er = c.start_of-right.ensures in
     let few = c.area.ensures.small in
     record {
       scalar-booleans = omega (arith, l, el, c.requires.wide, c.requires.ample.booleans);
@@ -41,8 +41,8 @@ equal-requires c =
     let p = c.args.place in
     let l = under_all p.width c.args.a p.row c.requires.left in
     let r = under_all p.width c.args.b p.row c.requires.right in
-    let el = c.start-of-left.ensures in
-    let er = c.start-of-right.ensures in
+    let el = c.start_of-left.ensures in
+    let er = c.start_of-right.ensures in
     let few = c.area-many.ensures.small in
     record {
       left-booleans = omega (arith, l, el, few, c.requires.ample.booleans);

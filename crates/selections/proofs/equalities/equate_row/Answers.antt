@@ -7,12 +7,12 @@ use Rattle.meaning.proofs.Shells.{refused_2, made_2, left_value}
 use Rattle.selections.proofs.Equating.{equate_at, equal_cells}
 use Rattle.selections.proofs.equalities.equate_row.Goals as goal
 
-pub returns-in-err-form : goal.returns-in-err-form
-returns-in-err-form c =
+pub returns-in_err-form : goal.returns-in_err-form
+returns-in_err-form c =
     let p = c.args.place in
     let t = tables c.args.booleans.now c.args.characters.now c.args.integers.now in
-    refused_2 p c.args.slips.now t c.from-residual-in-err-form.result c.in-err-form.field-0.0 c.from-residual-in-err-form.ensures.1
-    c.args.a c.args.b (equated c.args.op) c.in-ok-x.x c.in-ok-y.y c.in-ok-x.ensures.is c.in-ok-y.ensures.is c.in-err-form.ensures
+    refused_2 p c.args.slips.now t c.from-residual-in_err-form.result c.in_err-form.field-0.0 c.from-residual-in_err-form.ensures.1
+    c.args.a c.args.b (equated c.args.op) c.in_ok-x.x c.in_ok-y.y c.in_ok-x.ensures.is c.in_ok-y.ensures.is c.in_err-form.ensures
 
 pub returns : goal.returns
 returns c =
@@ -21,15 +21,15 @@ returns c =
     let cs = c.args.characters.now in
     let is = c.args.integers.now in
     let t = tables bs cs is in
-    let x = c.in-ok-x.x in
-    let y = c.in-ok-y.y in
-    let lx = c.in-ok-x.ensures.lawful in
-    let ly = c.in-ok-y.ensures.lawful in
-    let form = c.in-ok-form.form in
-    let g = c.in-ok-form.ensures in
+    let x = c.in_ok-x.x in
+    let y = c.in_ok-y.y in
+    let lx = c.in_ok-x.ensures.lawful in
+    let ly = c.in_ok-y.ensures.lawful in
+    let form = c.in_ok-form.form in
+    let g = c.in_ok-form.ensures in
     let ok : Bool → Result (List Bool) ElementFault = λ b. Ok (b ∷ []) in
     let e = equal_cells p c.args.op t c.args.a c.args.b x y form g lx ly c.requires.wide c.requires.left c.requires.ample in
-    made_2 p c.args.slips.now t _ _ c.args.a c.args.b (equated c.args.op) x y c.in-ok-x.ensures.is c.in-ok-y.ensures.is
+    made_2 p c.args.slips.now t _ _ c.args.a c.args.b (equated c.args.op) x y c.in_ok-x.ensures.is c.in_ok-y.ensures.is
     (left_value p p.row (FreeAt p.width p.row) t _ (equate_at p c.args.op t c.args.a c.args.b x y form g lx ly) form (sym g) (c.says.result ∷ []) refl
-    (ap ok (ap (says c.args.op) (e ∙ sym c.are-equal-same.ensures) ∙ sym c.says.ensures))
-    (ap (λ (ds : List Bool). tables ds cs is) (c.write-truth.ensures ∙ ap (λ (n : ℕ). put bs n (c.says.result ∷ [])) c.start-of.ensures)))
+    (ap ok (ap (says c.args.op) (e ∙ sym c.are_equal-same.ensures) ∙ sym c.says.ensures))
+    (ap (λ (ds : List Bool). tables ds cs is) (c.write_truth.ensures ∙ ap (λ (n : ℕ). put bs n (c.says.result ∷ [])) c.start_of.ensures)))

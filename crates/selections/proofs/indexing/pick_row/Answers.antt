@@ -6,55 +6,55 @@ use Rattle.meaning.proofs.Rows.{under_all, lawful_small, within_small}
 use Rattle.selections.proofs.Choosing.{chosen_made, read_below, pick_at, pick_guarded, pick_outside, pick_elements, pick_many}
 use Rattle.selections.proofs.indexing.pick_row.Goals as goal
 
-pub list-at-list-requires : goal.list-at-list-requires
-list-at-list-requires c =
+pub list_at-list-requires : goal.list_at-list-requires
+list_at-list-requires c =
     let p = c.args.place in
     let u = under_all p.width c.args.b p.row c.requires.right in
     omega (arith, u, c.requires.ample.integers, c.requires.wide)
 
-pub returns-in-err-form : goal.returns-in-err-form
-returns-in-err-form c =
+pub returns-in_err-form : goal.returns-in_err-form
+returns-in_err-form c =
     let p = c.args.place in
     let t = tables c.args.booleans.now c.args.characters.now c.args.integers.now in
-    refused_2 p c.args.slips.now t c.from-residual-in-err-form.result c.in-err-form.field-0.0 c.from-residual-in-err-form.ensures.1
-    c.args.a c.args.b pick c.in-ok-x.x c.in-ok-y.y c.in-ok-x.ensures.is c.in-ok-y.ensures.is
-    (c.in-err-form.ensures.is ∙ pick_guarded p t c.args.a c.args.b c.in-ok-x.x c.in-ok-y.y c.in-ok-x.ensures.lawful c.in-ok-y.ensures.lawful c.list-at-list.result c.list-at-list.ensures)
+    refused_2 p c.args.slips.now t c.from-residual-in_err-form.result c.in_err-form.field-0.0 c.from-residual-in_err-form.ensures.1
+    c.args.a c.args.b pick c.in_ok-x.x c.in_ok-y.y c.in_ok-x.ensures.is c.in_ok-y.ensures.is
+    (c.in_err-form.ensures.is ∙ pick_guarded p t c.args.a c.args.b c.in_ok-x.x c.in_ok-y.y c.in_ok-x.ensures.lawful c.in_ok-y.ensures.lawful c.list_at-list.result c.list_at-list.ensures)
 
 pub pick-picked-requires : goal.pick-picked-requires
 pick-picked-requires c =
     let p = c.args.place in
     let t = tables c.args.booleans.now c.args.characters.now c.args.integers.now in
-    let x = c.in-ok-x.x in
-    let y = c.in-ok-y.y in
-    let lx = c.in-ok-x.ensures.lawful in
-    let ly = c.in-ok-y.ensures.lawful in
-    let form = c.in-ok-form.form in
-    let s = within_small p.width form c.in-ok-form.ensures.within in
-    let n = pick_many p t c.args.a c.args.b x y lx ly c.list-at-list.result c.list-at-list.ensures form c.in-ok-form.ensures.is in
+    let x = c.in_ok-x.x in
+    let y = c.in_ok-y.y in
+    let lx = c.in_ok-x.ensures.lawful in
+    let ly = c.in_ok-y.ensures.lawful in
+    let form = c.in_ok-form.form in
+    let s = within_small p.width form c.in_ok-form.ensures.within in
+    let n = pick_many p t c.args.a c.args.b x y lx ly c.list_at-list.result c.list_at-list.ensures form c.in_ok-form.ensures.is in
     let l = under_all p.width c.args.a p.row c.requires.left in
     let r = under_all p.width c.args.b p.row c.requires.right in
     let f = lawful_small p.width x lx in
     record {
-      below = omega (arith, l, f.columns, c.start-of-from.ensures, c.start-of-to.ensures);
-      indices = read_below p.width t c.args.b y ly c.list-at-list.result c.list-at-list.ensures _ (omega (arith, r, c.start-of-to.ensures));
-      seen = read_below p.width t c.args.b y ly c.list-at-list.result c.list-at-list.ensures _ (omega (arith, r, c.requires.ample.integers));
-      booleans = omega (arith, n, s.columns, c.start-of-to.ensures, c.requires.ample.booleans);
-      characters = omega (arith, n, s.columns, c.start-of-to.ensures, c.requires.ample.characters);
-      integers = omega (arith, n, s.columns, c.start-of-to.ensures, c.requires.ample.integers);
+      below = omega (arith, l, f.columns, c.start_of-from.ensures, c.start_of-to.ensures);
+      indices = read_below p.width t c.args.b y ly c.list_at-list.result c.list_at-list.ensures _ (omega (arith, r, c.start_of-to.ensures));
+      seen = read_below p.width t c.args.b y ly c.list_at-list.result c.list_at-list.ensures _ (omega (arith, r, c.requires.ample.integers));
+      booleans = omega (arith, n, s.columns, c.start_of-to.ensures, c.requires.ample.booleans);
+      characters = omega (arith, n, s.columns, c.start_of-to.ensures, c.requires.ample.characters);
+      integers = omega (arith, n, s.columns, c.start_of-to.ensures, c.requires.ample.integers);
     }
 
 pub returns : goal.returns
 returns c =
     let p = c.args.place in
     let t = tables c.args.booleans.now c.args.characters.now c.args.integers.now in
-    let x = c.in-ok-x.x in
-    let y = c.in-ok-y.y in
-    let lx = c.in-ok-x.ensures.lawful in
-    let ly = c.in-ok-y.ensures.lawful in
-    let list = c.list-at-list.result in
-    let el = c.list-at-list.ensures in
-    let form = c.in-ok-form.form in
-    let g = c.in-ok-form.ensures.is in
-    made_2 p c.args.slips.now t _ c.answer.result c.args.a c.args.b pick x y c.in-ok-x.ensures.is c.in-ok-y.ensures.is
-    (chosen_made p t _ (pick_at p t c.args.a c.args.b x y lx ly list el) form (g ∙ pick_guarded p t c.args.a c.args.b x y lx ly list el) _ c.start-of-to.result _ c.pick-picked.result c.answer.result
-    (pick_outside p t c.args.a c.args.b x y lx ly list el form g) (pick_elements p t c.args.a c.args.b x y lx ly list el form g c.start-of-from.result c.start-of-from.ensures) c.start-of-to.ensures c.answer.ensures c.pick-picked.ensures)
+    let x = c.in_ok-x.x in
+    let y = c.in_ok-y.y in
+    let lx = c.in_ok-x.ensures.lawful in
+    let ly = c.in_ok-y.ensures.lawful in
+    let list = c.list_at-list.result in
+    let el = c.list_at-list.ensures in
+    let form = c.in_ok-form.form in
+    let g = c.in_ok-form.ensures.is in
+    made_2 p c.args.slips.now t _ c.answer.result c.args.a c.args.b pick x y c.in_ok-x.ensures.is c.in_ok-y.ensures.is
+    (chosen_made p t _ (pick_at p t c.args.a c.args.b x y lx ly list el) form (g ∙ pick_guarded p t c.args.a c.args.b x y lx ly list el) _ c.start_of-to.result _ c.pick-picked.result c.answer.result
+    (pick_outside p t c.args.a c.args.b x y lx ly list el form g) (pick_elements p t c.args.a c.args.b x y lx ly list el form g c.start_of-from.result c.start_of-from.ensures) c.start_of-to.ensures c.answer.ensures c.pick-picked.ensures)

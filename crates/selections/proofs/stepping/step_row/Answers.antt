@@ -7,71 +7,71 @@ use Rattle.selections.proofs.Choosing.{read_below}
 use Rattle.selections.proofs.Striding.{step_at, step_guarded, step_some, step_many, step_written}
 use Rattle.selections.proofs.stepping.step_row.Goals as goal
 
-pub list-at-list-requires : goal.list-at-list-requires
-list-at-list-requires c =
+pub list_at-list-requires : goal.list_at-list-requires
+list_at-list-requires c =
     let p = c.args.place in
     let u = under_all p.width c.args.a p.row c.requires.left in
     omega (arith, u, c.requires.ample.integers, c.requires.wide)
 
-pub step-at-step-requires : goal.step-at-step-requires
-step-at-step-requires c =
+pub step_at-step-requires : goal.step_at-step-requires
+step_at-step-requires c =
     let p = c.args.place in
     let u = under_all p.width c.args.b p.row c.requires.right in
-    omega (arith, u, c.start-of.ensures, c.requires.ample.integers, c.requires.wide)
+    omega (arith, u, c.start_of.ensures, c.requires.ample.integers, c.requires.wide)
 
-pub returns-in-err-form : goal.returns-in-err-form
-returns-in-err-form c =
+pub returns-in_err-form : goal.returns-in_err-form
+returns-in_err-form c =
     let p = c.args.place in
     let t = tables c.args.booleans.now c.args.characters.now c.args.integers.now in
-    refused_2 p c.args.slips.now t c.from-residual-in-err-form.result c.in-err-form.field-0.0 c.from-residual-in-err-form.ensures.1
-    c.args.a c.args.b stepped_by c.in-ok-x.x c.in-ok-y.y c.in-ok-x.ensures.is c.in-ok-y.ensures.is
-    (c.in-err-form.ensures.is ∙ step_guarded p t c.args.a c.args.b c.in-ok-x.x c.in-ok-y.y c.in-ok-x.ensures.lawful c.in-ok-y.ensures.lawful c.list-at-list.result c.list-at-list.ensures c.start-of.result c.step-at-step.result c.start-of.ensures c.step-at-step.ensures.is)
+    refused_2 p c.args.slips.now t c.from-residual-in_err-form.result c.in_err-form.field-0.0 c.from-residual-in_err-form.ensures.1
+    c.args.a c.args.b stepped_by c.in_ok-x.x c.in_ok-y.y c.in_ok-x.ensures.is c.in_ok-y.ensures.is
+    (c.in_err-form.ensures.is ∙ step_guarded p t c.args.a c.args.b c.in_ok-x.x c.in_ok-y.y c.in_ok-x.ensures.lawful c.in_ok-y.ensures.lawful c.list_at-list.result c.list_at-list.ensures c.start_of.result c.step_at-step.result c.start_of.ensures c.step_at-step.ensures.is)
 
-pub write-steps-requires : goal.write-steps-requires
-write-steps-requires c =
+pub write_steps-requires : goal.write_steps-requires
+write_steps-requires c =
     let p = c.args.place in
     let t = tables c.args.booleans.now c.args.characters.now c.args.integers.now in
-    let x = c.in-ok-x.x in
-    let y = c.in-ok-y.y in
-    let lx = c.in-ok-x.ensures.lawful in
-    let ly = c.in-ok-y.ensures.lawful in
-    let list = c.list-at-list.result in
-    let el = c.list-at-list.ensures in
-    let n = c.start-of.result in
-    let step = c.step-at-step.result in
-    let en = c.start-of.ensures in
-    let es = c.step-at-step.ensures.is in
-    let form = c.in-ok-form.form in
-    let g = c.in-ok-form.ensures.is in
-    let s = within_small p.width form c.in-ok-form.ensures.within in
+    let x = c.in_ok-x.x in
+    let y = c.in_ok-y.y in
+    let lx = c.in_ok-x.ensures.lawful in
+    let ly = c.in_ok-y.ensures.lawful in
+    let list = c.list_at-list.result in
+    let el = c.list_at-list.ensures in
+    let n = c.start_of.result in
+    let step = c.step_at-step.result in
+    let en = c.start_of.ensures in
+    let es = c.step_at-step.ensures.is in
+    let form = c.in_ok-form.form in
+    let g = c.in_ok-form.ensures.is in
+    let s = within_small p.width form c.in_ok-form.ensures.within in
     let m = step_many p t c.args.a c.args.b x y lx ly list el n step en es form g in
     let u = under_all p.width c.args.a p.row c.requires.left in
     record {
       some = step_some p t c.args.a c.args.b x y lx ly list el n step en es form g;
-      small = c.step-at-step.ensures.small;
-      below = read_below p.width t c.args.a x lx list el _ (omega (arith, u, c.start-of-to.ensures));
+      small = c.step_at-step.ensures.small;
+      below = read_below p.width t c.args.a x lx list el _ (omega (arith, u, c.start_of-to.ensures));
       near = search rules;
-      booleans = omega (arith, m, s.columns, c.start-of-to.ensures, c.requires.ample.booleans);
-      characters = omega (arith, m, s.columns, c.start-of-to.ensures, c.requires.ample.characters);
-      integers = omega (arith, m, s.columns, c.start-of-to.ensures, c.requires.ample.integers);
+      booleans = omega (arith, m, s.columns, c.start_of-to.ensures, c.requires.ample.booleans);
+      characters = omega (arith, m, s.columns, c.start_of-to.ensures, c.requires.ample.characters);
+      integers = omega (arith, m, s.columns, c.start_of-to.ensures, c.requires.ample.integers);
     }
 
 pub returns : goal.returns
 returns c =
     let p = c.args.place in
     let t = tables c.args.booleans.now c.args.characters.now c.args.integers.now in
-    let x = c.in-ok-x.x in
-    let y = c.in-ok-y.y in
-    let lx = c.in-ok-x.ensures.lawful in
-    let ly = c.in-ok-y.ensures.lawful in
-    let list = c.list-at-list.result in
-    let el = c.list-at-list.ensures in
-    let n = c.start-of.result in
-    let step = c.step-at-step.result in
-    let en = c.start-of.ensures in
-    let es = c.step-at-step.ensures.is in
-    let form = c.in-ok-form.form in
-    let g = c.in-ok-form.ensures.is in
-    made_2 p c.args.slips.now t _ _ c.args.a c.args.b stepped_by x y c.in-ok-x.ensures.is c.in-ok-y.ensures.is
+    let x = c.in_ok-x.x in
+    let y = c.in_ok-y.y in
+    let lx = c.in_ok-x.ensures.lawful in
+    let ly = c.in_ok-y.ensures.lawful in
+    let list = c.list_at-list.result in
+    let el = c.list_at-list.ensures in
+    let n = c.start_of.result in
+    let step = c.step_at-step.result in
+    let en = c.start_of.ensures in
+    let es = c.step_at-step.ensures.is in
+    let form = c.in_ok-form.form in
+    let g = c.in_ok-form.ensures.is in
+    made_2 p c.args.slips.now t _ _ c.args.a c.args.b stepped_by x y c.in_ok-x.ensures.is c.in_ok-y.ensures.is
     (left_value p p.row (FreeAt p.width p.row) t _ (step_at p t c.args.a c.args.b x y lx ly list el n step en es) form (sym (g ∙ step_guarded p t c.args.a c.args.b x y lx ly list el n step en es)) _ refl refl
-    (c.write-steps.ensures ∙ step_written p t c.args.a c.args.b x y lx ly list el n step en es form g c.start-of-to.result c.start-of-to.ensures))
+    (c.write_steps.ensures ∙ step_written p t c.args.a c.args.b x y lx ly list el n step en es form g c.start_of-to.result c.start_of-to.ensures))

@@ -5,9 +5,9 @@ use Rattle.sheet.proofs.reading.examine.Goals as goal
 
 pub returns-then-space-trailer : goal.returns-then-space-trailer
 returns-then-space-trailer c =
-    let l = c.in-ok-trailer.ensures in (
+    let l = c.in_ok-trailer.ensures in (
       l.0,
-      subst (Laid (length c.args.file.now)) l.1 (c.if-not-is-laid.ensures.0 refl),
+      subst (Laid (length c.args.file.now)) l.1 (c.if-not-is_laid.ensures.0 refl),
       (c.in-Some.head, c.in-Some.ensures ∙ ap (λ t. t.head) l.1),
       subst (λ (t : Trailer). c.args.space < t.count) l.1 c.if-space-trailer.true,
     )

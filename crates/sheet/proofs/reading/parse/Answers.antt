@@ -8,8 +8,8 @@ returns c =
     let file = c.args.file.now in
     let t = c.in-Ok.found.0 in
     let l = c.in-Ok.ensures in
-    let rows = vec_items c.read-rows-rows.result in
-    let r = c.read-rows-rows.ensures in
+    let rows = vec_items c.read_rows-rows.result in
+    let r = c.read_rows-rows.ensures in
     let count : length rows ≡ t.count = search rules in
     record {
       bytes = whole file t (numbers_of c.in-Ok.found.1) rows l.1 (ap (λ x. x.mark) l.2 ∙ l.0.mark) l.3 l.4 count r.bytes;

@@ -6,7 +6,7 @@ pub loop-row-preserved : goal.loop-row-preserved
 loop-row-preserved c =
     let more = take_more c.args.from.now c.loop-row.row-index c.row-item.result c.loop-row-test.true in
     let was = c.loop-row.invariant.0 in
-    let next = c.push-reserved.ensures.items in
+    let next = c.push_reserved.ensures.items in
     let is = c.row-item.is in
     (cc, search rules, search rules)
 

@@ -10,7 +10,7 @@ pub loop-i-init : goal.loop-i-init
 loop-i-init c = sym (placed_none c.args.out.now c.args.start)
 
 pub loop-i-preserved : goal.loop-i-preserved
-loop-i-preserved c = put_more c.args.out.now c.loop-i.out c.put.new.out c.args.start c.loop-i.i c.args.rows.now c.index-rows-i.result c.row-bytes.result (omega arith) c.index-rows-i.is (omega arith) c.loop-i.invariant c.row-bytes.ensures c.put.ensures
+loop-i-preserved c = put_more c.args.out.now c.loop-i.out c.put.new.out c.args.start c.loop-i.i c.args.rows.now c.index-rows-i.result c.row_bytes.result (omega arith) c.index-rows-i.is (omega arith) c.loop-i.invariant c.row_bytes.ensures c.put.ensures
 
 pub returns : goal.returns
 returns c = c.loop-i.invariant ∙ ap (λ xs. placed c.args.out.now c.args.start (flat_map row_bytes xs)) (take_all c.loop-i.i c.args.rows.now c.loop-i-test.false)

@@ -11,9 +11,9 @@ loop-i-init c = (ap (flat_map row_bytes) c.args.room.bare, search rules, refl)
 pub loop-i-preserved : goal.loop-i-preserved
 loop-i-preserved c =
     let was = vec_items c.loop-i.rows in
-    let next = vec_items c.push-reserved.new.self in
-    let row = c.read-row.result in
-    (read_more was next row c.args.body.now c.loop-i.i c.loop-i.invariant.0 c.read-row.ensures c.push-reserved.ensures.items, search rules, search rules)
+    let next = vec_items c.push_reserved.new.self in
+    let row = c.read_row.result in
+    (read_more was next row c.args.body.now c.loop-i.i c.loop-i.invariant.0 c.read_row.ensures c.push_reserved.ensures.items, search rules, search rules)
 
 pub returns : goal.returns
 returns c = record { bytes = c.loop-i.invariant.0 ∙ take_all (20 * c.loop-i.i) c.args.body.now (omega arith); len = search rules; capacity = search rules }

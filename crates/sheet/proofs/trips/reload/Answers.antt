@@ -2,8 +2,8 @@ use Rattle.std.proofs.Common.{◌≤◌, length, rules}
 use Rattle.sheet.proofs.ThereAndBack.{in_buffer, front, reloaded}
 use Rattle.sheet.proofs.trips.reload.Goals as goal
 
-pub slice-bounds-load-end : goal.slice-bounds-load-end
-slice-bounds-load-end c =
+pub slice_bounds-load-end : goal.slice_bounds-load-end
+slice_bounds-load-end c =
     let p = c.in-Ok.ensures in
     let l : c.in-Ok.n ≤ length c.save.new.out = in_buffer _ _ _ _ p.bytes p.len in
     search rules

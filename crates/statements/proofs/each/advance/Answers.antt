@@ -19,42 +19,42 @@ long_enough p a t h u Boolean = omega (arith, h.booleans)
 long_enough p a t h u Character = omega (arith, h.characters)
 long_enough p a t h u Integer = omega (arith, h.integers)
 
-pub returns-then-not-is-ranged : goal.returns-then-not-is-ranged
-returns-then-not-is-ranged c s =
+pub returns-then-not-is_ranged : goal.returns-then-not-is_ranged
+returns-then-not-is_ranged c s =
     let g = c.args in
-    each_stuck g.place s g.slips.now (tables g.booleans.now g.characters.now g.integers.now) g.i g.a g.end g.n c.in-ok-x.x c.in-ok-x.ensures.is c.fault.result c.fault.ensures c.if-not-is-ranged.ensures
+    each_stuck g.place s g.slips.now (tables g.booleans.now g.characters.now g.integers.now) g.i g.a g.end g.n c.in_ok-x.x c.in_ok-x.ensures.is c.fault.result c.fault.ensures c.if-not-is_ranged.ensures
 
-pub list-at-list-requires : goal.list-at-list-requires
-list-at-list-requires c =
+pub list_at-list-requires : goal.list_at-list-requires
+list_at-list-requires c =
     let W = c.args.place.width in
-    let wide = ranged_wide W c.in-ok-x.x c.in-ok-x.ensures.lawful (sym c.if-not-is-ranged.ensures) in
+    let wide = ranged_wide W c.in_ok-x.x c.in_ok-x.ensures.lawful (sym c.if-not-is_ranged.ensures) in
     let u = under_all W c.args.a c.args.place.row (omega arith) in
     omega (arith, wide, u, c.requires.ample.integers)
 
-pub returns-then-not-is-orderly : goal.returns-then-not-is-orderly
-returns-then-not-is-orderly c s =
+pub returns-then-not-is_orderly : goal.returns-then-not-is_orderly
+returns-then-not-is_orderly c s =
     let g = c.args in
-    each_disordered g.place s g.slips.now (tables g.booleans.now g.characters.now g.integers.now) g.i g.a g.end g.n c.in-ok-x.x c.in-ok-x.ensures.is
-    c.in-ok-x.ensures.lawful c.if-not-is-ranged.ensures c.list-at-list.result c.list-at-list.ensures c.fault-then-not-is-orderly.result c.fault-then-not-is-orderly.ensures c.if-not-is-orderly.ensures
+    each_disordered g.place s g.slips.now (tables g.booleans.now g.characters.now g.integers.now) g.i g.a g.end g.n c.in_ok-x.x c.in_ok-x.ensures.is
+    c.in_ok-x.ensures.lawful c.if-not-is_ranged.ensures c.list_at-list.result c.list_at-list.ensures c.fault-then-not-is_orderly.result c.fault-then-not-is_orderly.ensures c.if-not-is_orderly.ensures
 
 pub returns-then-n-count : goal.returns-then-n-count
 returns-then-n-count c s =
     let g = c.args in
-    each_over g.place s g.slips.now (tables g.booleans.now g.characters.now g.integers.now) g.i g.a g.end g.n c.in-ok-x.x c.in-ok-x.ensures.is
-    c.in-ok-x.ensures.lawful c.if-not-is-ranged.ensures c.list-at-list.result c.list-at-list.ensures c.if-not-is-orderly.ensures
+    each_over g.place s g.slips.now (tables g.booleans.now g.characters.now g.integers.now) g.i g.a g.end g.n c.in_ok-x.x c.in_ok-x.ensures.is
+    c.in_ok-x.ensures.lawful c.if-not-is_ranged.ensures c.list_at-list.result c.list_at-list.ensures c.if-not-is_orderly.ensures
     (subst (λ (m : ℕ). m ≤ g.n) c.count.ensures c.if-n-count.true) _ (ap (set g.slips.now g.i) c.blank.ensures)
 
-pub put-element-requires : goal.put-element-requires
-put-element-requires c =
+pub put_element-requires : goal.put_element-requires
+put_element-requires c =
     let g = c.args in
     let W = g.place.width in
-    let wide = ranged_wide W c.in-ok-x.x c.in-ok-x.ensures.lawful (sym c.if-not-is-ranged.ensures) in
+    let wide = ranged_wide W c.in_ok-x.x c.in_ok-x.ensures.lawful (sym c.if-not-is_ranged.ensures) in
     let lt = subst (λ (m : ℕ). g.n < m) c.count.ensures c.if-n-count.false in
-    let start = c.start-of-to.ensures in
+    let start = c.start_of-to.ensures in
     let u = under_all W g.a g.i c.requires.domain in
     let last = room_at W g.i g.place.row c.requires.upto in
     record {
-      below = element_below W g.integers.now g.a g.n c.in-ok-x.x c.in-ok-x.ensures.lawful c.list-at-list.result c.list-at-list.ensures c.start-of-to.result lt (omega (arith, u, start));
+      below = element_below W g.integers.now g.a g.n c.in_ok-x.x c.in_ok-x.ensures.lawful c.list_at-list.result c.list_at-list.ensures c.start_of-to.result lt (omega (arith, u, start));
       booleans = omega (arith, wide, last, start, c.requires.ample.booleans);
       characters = omega (arith, wide, last, start, c.requires.ample.characters);
       integers = omega (arith, wide, last, start, c.requires.ample.integers);
@@ -67,6 +67,6 @@ returns c s =
     let lt = subst (λ (m : ℕ). g.n < m) c.count.ensures c.if-n-count.false in
     let u = under_all W g.a g.place.row (omega arith) in
     let t = tables g.booleans.now g.characters.now g.integers.now in
-    each_takes g.place s g.slips.now t g.i g.a g.end g.n c.in-ok-x.x c.in-ok-x.ensures.is
-    c.in-ok-x.ensures.lawful c.if-not-is-ranged.ensures c.list-at-list.result c.list-at-list.ensures c.if-not-is-orderly.ensures
-    lt (long_enough g.place g.a t c.requires.ample u) c.start-of-to.result c.start-of-to.ensures _ (ap (set g.slips.now g.i) (c.new.ensures ∙ ap (λ (f : Layout). slip_of f g.n) c.scalar.ensures)) _ c.put-element.ensures
+    each_takes g.place s g.slips.now t g.i g.a g.end g.n c.in_ok-x.x c.in_ok-x.ensures.is
+    c.in_ok-x.ensures.lawful c.if-not-is_ranged.ensures c.list_at-list.result c.list_at-list.ensures c.if-not-is_orderly.ensures
+    lt (long_enough g.place g.a t c.requires.ample u) c.start_of-to.result c.start_of-to.ensures _ (ap (set g.slips.now g.i) (c.new.ensures ∙ ap (λ (f : Layout). slip_of f g.n) c.scalar.ensures)) _ c.put_element.ensures

@@ -9,7 +9,7 @@ returns-then-same c =
     let g = c.args in
     record {
       row = λ s.
-          print_stuck g.place s g.slips.now (tables g.booleans.now g.characters.now g.integers.now) g.a c.in-ok-x.x c.in-ok-x.ensures.is g.output.now g.printed.now
+          print_stuck g.place s g.slips.now (tables g.booleans.now g.characters.now g.integers.now) g.a c.in_ok-x.x c.in_ok-x.ensures.is g.output.now g.printed.now
           c.fault.result c.fault.ensures c.if-same.ensures;
       room = c.requires.room;
     }
@@ -17,11 +17,11 @@ returns-then-same c =
 pub print-requires : goal.print-requires
 print-requires c =
     let W = c.args.place.width in
-    let x = c.in-ok-x.x in
-    let law = c.in-ok-x.ensures.lawful in
+    let x = c.in_ok-x.x in
+    let law = c.in_ok-x.ensures.lawful in
     let small = lawful_small W x law in
     let u = under_all W c.args.a c.args.place.row c.requires.before in
-    let start = c.start-of-at.ensures in
+    let start = c.start_of-at.ensures in
     record {
       fixed = lawful_fixed W x law;
       rows = omega (arith, small.rows, c.requires.width);
@@ -38,8 +38,8 @@ returns-in-Some c =
     let done = c.in-Some.ensures in
     record {
       row = λ s.
-          print_some g.place s g.slips.now (tables g.booleans.now g.characters.now g.integers.now) g.a c.in-ok-x.x c.in-ok-x.ensures.is g.output.now g.printed.now
-          c.if-same.ensures c.start-of-at.result c.start-of-at.ensures c.print.new.output c.in-Some.end done;
+          print_some g.place s g.slips.now (tables g.booleans.now g.characters.now g.integers.now) g.a c.in_ok-x.x c.in_ok-x.ensures.is g.output.now g.printed.now
+          c.if-same.ensures c.start_of-at.result c.start_of-at.ensures c.print.new.output c.in-Some.end done;
       room = omega (arith, done.0, done.1, c.print.auto.output);
     }
 
@@ -48,7 +48,7 @@ returns-in-None c =
     let g = c.args in
     record {
       row = λ s.
-          print_none g.place s g.slips.now (tables g.booleans.now g.characters.now g.integers.now) g.a c.in-ok-x.x c.in-ok-x.ensures.is g.output.now g.printed.now
-          c.if-same.ensures c.start-of-at.result c.start-of-at.ensures c.print.new.output c.in-None.ensures;
+          print_none g.place s g.slips.now (tables g.booleans.now g.characters.now g.integers.now) g.a c.in_ok-x.x c.in_ok-x.ensures.is g.output.now g.printed.now
+          c.if-same.ensures c.start_of-at.result c.start_of-at.ensures c.print.new.output c.in-None.ensures;
       room = omega (arith, c.requires.room, c.print.auto.output);
     }

@@ -16,7 +16,7 @@ pub returns-in-Character : goal.returns-in-Character
 returns-in-Character c =
     let a = c.args in
     let fits = c.ranges.n in
-    changed_character _ (tables a.booleans.now a.characters.now a.integers.now) a.to (λ k T. cast Integer k a.n ∷ []) c.in-Character.is (put_cell a.characters.now a.to _ _ c.requires.characters (to_z-of_z {w = w8} (sfits_of c.cast-in-Character.type-inv) ∙ simp to_z-of_z at c.cast-in-Character.ensures))
+    changed_character _ (tables a.booleans.now a.characters.now a.integers.now) a.to (λ k T. cast Integer k a.n ∷ []) c.in-Character.is (put_cell a.characters.now a.to _ _ c.requires.characters (to_z-of_z {w = w8} (sfits_of c.cast-in-Character.type_inv) ∙ simp to_z-of_z at c.cast-in-Character.ensures))
 
 pub returns-in-Integer : goal.returns-in-Integer
 returns-in-Integer c =

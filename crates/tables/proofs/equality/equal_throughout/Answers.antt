@@ -9,14 +9,14 @@ use Rattle.tables.proofs.equality.equal_throughout.Goals as goal
 pub returns-in-Boolean : goal.returns-in-Boolean
 returns-in-Boolean c =
     let a = c.args in
-    same_in Boolean (tables a.booleans.now a.characters.now a.integers.now) (λ k T. cells T a.at a.n) (λ k T. replicate a.n (get_or T a.scalar (null_of k))) _ c.in-Boolean.is c.equal-to-cell.ensures
+    same_in Boolean (tables a.booleans.now a.characters.now a.integers.now) (λ k T. cells T a.at a.n) (λ k T. replicate a.n (get_or T a.scalar (null_of k))) _ c.in-Boolean.is c.equal_to_cell.ensures
 
 pub returns-in-Character : goal.returns-in-Character
 returns-in-Character c =
     let a = c.args in
-    same_in Character (tables a.booleans.now a.characters.now a.integers.now) (λ k T. cells T a.at a.n) (λ k T. replicate a.n (get_or T a.scalar (null_of k))) _ c.in-Character.is c.equal-to-cell-in-Character.ensures
+    same_in Character (tables a.booleans.now a.characters.now a.integers.now) (λ k T. cells T a.at a.n) (λ k T. replicate a.n (get_or T a.scalar (null_of k))) _ c.in-Character.is c.equal_to_cell-in-Character.ensures
 
 pub returns-in-Integer : goal.returns-in-Integer
 returns-in-Integer c =
     let a = c.args in
-    same_in Integer (tables a.booleans.now a.characters.now a.integers.now) (λ k T. cells T a.at a.n) (λ k T. replicate a.n (get_or T a.scalar (null_of k))) _ c.in-Integer.is c.equal-to-cell-in-Integer.ensures
+    same_in Integer (tables a.booleans.now a.characters.now a.integers.now) (λ k T. cells T a.at a.n) (λ k T. replicate a.n (get_or T a.scalar (null_of k))) _ c.in-Integer.is c.equal_to_cell-in-Integer.ensures

@@ -7,14 +7,14 @@ use Rattle.tables.proofs.moves.fill_nulls.Goals as goal
 pub returns-in-Boolean : goal.returns-in-Boolean
 returns-in-Boolean c =
     let a = c.args in
-    changed_boolean _ (tables a.booleans.now a.characters.now a.integers.now) _ (λ k T. replicate a.n (null_of k)) c.in-Boolean.is c.spread-null.ensures
+    changed_boolean _ (tables a.booleans.now a.characters.now a.integers.now) _ (λ k T. replicate a.n (null_of k)) c.in-Boolean.is c.spread_null.ensures
 
 pub returns-in-Character : goal.returns-in-Character
 returns-in-Character c =
     let a = c.args in
-    changed_character _ (tables a.booleans.now a.characters.now a.integers.now) _ (λ k T. replicate a.n (null_of k)) c.in-Character.is c.spread-null-in-Character.ensures
+    changed_character _ (tables a.booleans.now a.characters.now a.integers.now) _ (λ k T. replicate a.n (null_of k)) c.in-Character.is c.spread_null-in-Character.ensures
 
 pub returns-in-Integer : goal.returns-in-Integer
 returns-in-Integer c =
     let a = c.args in
-    changed_integer _ (tables a.booleans.now a.characters.now a.integers.now) _ (λ k T. replicate a.n (null_of k)) c.in-Integer.is c.spread-null-in-Integer.ensures
+    changed_integer _ (tables a.booleans.now a.characters.now a.integers.now) _ (λ k T. replicate a.n (null_of k)) c.in-Integer.is c.spread_null-in-Integer.ensures

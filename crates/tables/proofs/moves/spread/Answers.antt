@@ -7,14 +7,14 @@ use Rattle.tables.proofs.moves.spread.Goals as goal
 pub returns-in-Boolean : goal.returns-in-Boolean
 returns-in-Boolean c =
     let a = c.args in
-    changed_boolean _ (tables a.booleans.now a.characters.now a.integers.now) _ (λ k T. replicate a.n (get_or T a.from (null_of k))) c.in-Boolean.is c.spread-cell.ensures
+    changed_boolean _ (tables a.booleans.now a.characters.now a.integers.now) _ (λ k T. replicate a.n (get_or T a.from (null_of k))) c.in-Boolean.is c.spread_cell.ensures
 
 pub returns-in-Character : goal.returns-in-Character
 returns-in-Character c =
     let a = c.args in
-    changed_character _ (tables a.booleans.now a.characters.now a.integers.now) _ (λ k T. replicate a.n (get_or T a.from (null_of k))) c.in-Character.is c.spread-cell-in-Character.ensures
+    changed_character _ (tables a.booleans.now a.characters.now a.integers.now) _ (λ k T. replicate a.n (get_or T a.from (null_of k))) c.in-Character.is c.spread_cell-in-Character.ensures
 
 pub returns-in-Integer : goal.returns-in-Integer
 returns-in-Integer c =
     let a = c.args in
-    changed_integer _ (tables a.booleans.now a.characters.now a.integers.now) _ (λ k T. replicate a.n (get_or T a.from (null_of k))) c.in-Integer.is c.spread-cell-in-Integer.ensures
+    changed_integer _ (tables a.booleans.now a.characters.now a.integers.now) _ (λ k T. replicate a.n (get_or T a.from (null_of k))) c.in-Integer.is c.spread_cell-in-Integer.ensures

@@ -6,14 +6,14 @@ use Rattle.tables.proofs.streams.print.Goals as goal
 pub returns-in-Boolean : goal.returns-in-Boolean
 returns-in-Boolean c =
     let a = c.args in
-    printed_in a.kind Boolean (tables a.booleans.now a.characters.now a.integers.now) a.shape a.r a.s a.at a.output.now a.printed c.print-cells.result c.print-cells.new.output c.in-Boolean.is c.print-cells.ensures
+    printed_in a.kind Boolean (tables a.booleans.now a.characters.now a.integers.now) a.shape a.r a.s a.at a.output.now a.printed c.print_cells.result c.print_cells.new.output c.in-Boolean.is c.print_cells.ensures
 
 pub returns-in-Character : goal.returns-in-Character
 returns-in-Character c =
     let a = c.args in
-    printed_in a.kind Character (tables a.booleans.now a.characters.now a.integers.now) a.shape a.r a.s a.at a.output.now a.printed c.print-cells-in-Character.result c.print-cells-in-Character.new.output c.in-Character.is c.print-cells-in-Character.ensures
+    printed_in a.kind Character (tables a.booleans.now a.characters.now a.integers.now) a.shape a.r a.s a.at a.output.now a.printed c.print_cells-in-Character.result c.print_cells-in-Character.new.output c.in-Character.is c.print_cells-in-Character.ensures
 
 pub returns-in-Integer : goal.returns-in-Integer
 returns-in-Integer c =
     let a = c.args in
-    printed_in a.kind Integer (tables a.booleans.now a.characters.now a.integers.now) a.shape a.r a.s a.at a.output.now a.printed c.print-cells-in-Integer.result c.print-cells-in-Integer.new.output c.in-Integer.is c.print-cells-in-Integer.ensures
+    printed_in a.kind Integer (tables a.booleans.now a.characters.now a.integers.now) a.shape a.r a.s a.at a.output.now a.printed c.print_cells-in-Integer.result c.print_cells-in-Integer.new.output c.in-Integer.is c.print_cells-in-Integer.ensures

@@ -6,9 +6,9 @@ use Rattle.tables.proofs.streams.print_cells.Goals as goal
 pub returns-in-Scalar : goal.returns-in-Scalar
 returns-in-Scalar g c =
     let a = c.args in
-    subst (λ (b : List ℕ). Printed b a.output.now a.printed c.print-scalar.result c.print-scalar.new.output)
+    subst (λ (b : List ℕ). Printed b a.output.now a.printed c.print_scalar.result c.print_scalar.new.output)
     (scalar_text g.E.Element.text g.E.Element.null a.table.now a.shape a.r a.s a.at g.E.Element.kind_of c.index-table-at.result c.in-Scalar.is c.requires.fixed c.requires.within c.index-table-at.is)
-    c.print-scalar.ensures
+    c.print_scalar.ensures
 
 pub returns-in-Interval : goal.returns-in-Interval
 returns-in-Interval g c =

@@ -11,32 +11,32 @@ returns-in-Boolean g c =
     let a = c.args in
     let bytes = g.S.Source.waiting a.source.now in
     record {
-      written = changed_boolean a.kind (tables a.booleans.now a.characters.now a.integers.now) a.to (λ k T. (reading k bytes).value ∷ []) c.in-Boolean.is (put_cell a.booleans.now a.to _ _ c.requires.booleans (value_told a.kind Boolean bytes c.read-boolean-got.result c.read-boolean-got.ensures.told));
-      told = state_told a.kind Boolean bytes c.read-boolean-got.result c.in-Boolean.is c.read-boolean-got.ensures.told;
-      waits = unread_told a.kind Boolean bytes _ c.in-Boolean.is c.read-boolean-got.ensures.waits;
-      took = c.read-boolean-got.ensures.took.count;
+      written = changed_boolean a.kind (tables a.booleans.now a.characters.now a.integers.now) a.to (λ k T. (reading k bytes).value ∷ []) c.in-Boolean.is (put_cell a.booleans.now a.to _ _ c.requires.booleans (value_told a.kind Boolean bytes c.read_boolean-got.result c.read_boolean-got.ensures.told));
+      told = state_told a.kind Boolean bytes c.read_boolean-got.result c.in-Boolean.is c.read_boolean-got.ensures.told;
+      waits = unread_told a.kind Boolean bytes _ c.in-Boolean.is c.read_boolean-got.ensures.waits;
+      took = c.read_boolean-got.ensures.took.count;
     }
 
 pub returns-in-Character : goal.returns-in-Character
 returns-in-Character g c =
     let a = c.args in
     let bytes = g.S.Source.waiting a.source.now in
-    let fits : SFits w8 c.read-character-got.result.value = search rules in
+    let fits : SFits w8 c.read_character-got.result.value = search rules in
     record {
-      written = changed_character a.kind (tables a.booleans.now a.characters.now a.integers.now) a.to (λ k T. (reading k bytes).value ∷ []) c.in-Character.is (put_cell a.characters.now a.to _ _ c.requires.characters (to_z-of_z {w = w8} fits ∙ value_told a.kind Character bytes c.read-character-got.result c.read-character-got.ensures.told));
-      told = state_told a.kind Character bytes c.read-character-got.result c.in-Character.is c.read-character-got.ensures.told;
-      waits = unread_told a.kind Character bytes _ c.in-Character.is c.read-character-got.ensures.waits;
-      took = c.read-character-got.ensures.took.count;
+      written = changed_character a.kind (tables a.booleans.now a.characters.now a.integers.now) a.to (λ k T. (reading k bytes).value ∷ []) c.in-Character.is (put_cell a.characters.now a.to _ _ c.requires.characters (to_z-of_z {w = w8} fits ∙ value_told a.kind Character bytes c.read_character-got.result c.read_character-got.ensures.told));
+      told = state_told a.kind Character bytes c.read_character-got.result c.in-Character.is c.read_character-got.ensures.told;
+      waits = unread_told a.kind Character bytes _ c.in-Character.is c.read_character-got.ensures.waits;
+      took = c.read_character-got.ensures.took.count;
     }
 
 pub returns-in-Integer : goal.returns-in-Integer
 returns-in-Integer g c =
     let a = c.args in
     let bytes = g.S.Source.waiting a.source.now in
-    let fits : SFits w32 c.read-integer-got.result.value = search rules in
+    let fits : SFits w32 c.read_integer-got.result.value = search rules in
     record {
-      written = changed_integer a.kind (tables a.booleans.now a.characters.now a.integers.now) a.to (λ k T. (reading k bytes).value ∷ []) c.in-Integer.is (put_cell a.integers.now a.to _ _ c.requires.integers (to_z-of_z {w = w32} fits ∙ value_told a.kind Integer bytes c.read-integer-got.result c.read-integer-got.ensures.told));
-      told = state_told a.kind Integer bytes c.read-integer-got.result c.in-Integer.is c.read-integer-got.ensures.told;
-      waits = unread_told a.kind Integer bytes _ c.in-Integer.is c.read-integer-got.ensures.waits;
-      took = c.read-integer-got.ensures.took.count;
+      written = changed_integer a.kind (tables a.booleans.now a.characters.now a.integers.now) a.to (λ k T. (reading k bytes).value ∷ []) c.in-Integer.is (put_cell a.integers.now a.to _ _ c.requires.integers (to_z-of_z {w = w32} fits ∙ value_told a.kind Integer bytes c.read_integer-got.result c.read_integer-got.ensures.told));
+      told = state_told a.kind Integer bytes c.read_integer-got.result c.in-Integer.is c.read_integer-got.ensures.told;
+      waits = unread_told a.kind Integer bytes _ c.in-Integer.is c.read_integer-got.ensures.waits;
+      took = c.read_integer-got.ensures.took.count;
     }

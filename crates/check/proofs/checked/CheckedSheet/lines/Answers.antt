@@ -10,4 +10,4 @@ returns c =
     let t = s.draft.head.result in
     let rows = vec_items s.draft.rows in
     let lines = vec_items s.lines in
-    record { value = c.as-slice.ensures.value; structured = structured w t rows lines (noted_accepted w t rows lines s.long s.lawful s.noted) }
+    record { value = c.as_slice.ensures.value; structured = structured w t rows lines (noted_accepted w t rows lines s.long s.lawful s.noted) }

@@ -4,8 +4,8 @@ use Rattle.std.proofs.lemmas.Nat.{mod_below}
 use Rattle.elementwise.proofs.Grids.{row_below}
 use Rattle.elementwise.proofs.products.MatricesRuleI32ResultI32ArithmeticFault.cell.Goals as goal
 
-pub overflow-add-column : goal.overflow-add-column
-overflow-add-column c = record { fits = omega (arith, mod-le c.args.k c.args.self.now.columns) }
+pub overflow_add-column : goal.overflow_add-column
+overflow_add-column c = record { fits = omega (arith, mod-le c.args.k c.args.self.now.columns) }
 
 pub inner-requires : goal.inner-requires
 inner-requires c =

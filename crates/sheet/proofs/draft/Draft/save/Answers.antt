@@ -19,9 +19,9 @@ returns c =
     let rows = vec_items d.rows in
     let n = c.len-count.result in
     let k : n ≡ length rows = search rules in
-    let t : c.trailer-bytes.result ≡ trailer_bytes (record { offset = length note; count = length rows; head = numbers_of d.head; mark = 0x5047 }) = c.trailer-bytes.ensures ∙ (λ i. trailer_bytes (record { offset = length note; count = k i; head = c.numbers.ensures i; mark = 0x5047 })) in
+    let t : c.trailer_bytes.result ≡ trailer_bytes (record { offset = length note; count = length rows; head = numbers_of d.head; mark = 0x5047 }) = c.trailer_bytes.ensures ∙ (λ i. trailer_bytes (record { offset = length note; count = k i; head = c.numbers.ensures i; mark = 0x5047 })) in
     record {
       short = omega arith;
       len = saved_length note (numbers_of d.head) rows n k;
-      bytes = saved note (numbers_of d.head) rows n k c.args.out.now c.put.new.out c.put-rows.new.out c.put-2.new.out c.as-slice.result.now c.trailer-bytes.result c.put.ensures c.as-slice.ensures.value c.put-rows.ensures t c.put-2.ensures;
+      bytes = saved note (numbers_of d.head) rows n k c.args.out.now c.put.new.out c.put_rows.new.out c.put-2.new.out c.as_slice.result.now c.trailer_bytes.result c.put.ensures c.as_slice.ensures.value c.put_rows.ensures t c.put-2.ensures;
     }

@@ -4,10 +4,10 @@ use Rattle.std.proofs.lemmas.Int.{to_z-of_z}
 use Rattle.source.specs.Lines.{line_of, left_of}
 use Rattle.source.proofs.Recording.{line_begins, no_line}
 use Rattle.source.proofs.recorder.Recorder.from_reading.Goals as goal
-use Rattle.source.proofs.recorder.Recorder.from_reading.Goals.{else-next-readings-via-then-next-readings+else-next-lt-MOST-READINGS, else-next-readings-via-else-next-readings}
+use Rattle.source.proofs.recorder.Recorder.from_reading.Goals.{else-next-readings-via-then-next-readings+else-next-lt-MOST_READINGS, else-next-readings-via-else-next-readings}
 
-pub returns-then-next-lt-MOST-READINGS : goal.returns-then-next-lt-MOST-READINGS
-returns-then-next-lt-MOST-READINGS c =
+pub returns-then-next-lt-MOST_READINGS : goal.returns-then-next-lt-MOST_READINGS
+returns-then-next-lt-MOST_READINGS c =
     let zs = c.args.readings.now in
     let i = c.args.next in
     let fits : SFits w32 (get_or zs i (pos 0)) = search rules in
@@ -21,7 +21,7 @@ returns-else-next-readings c =
     let zs = c.args.readings.now in
     let i = c.args.next in
     let past : length (take 65536 zs) ≤ i = simp length-take (elim c.else-next-readings.branch [
-      | else-next-readings-via-then-next-readings+else-next-lt-MOST-READINGS w ↦ omega arith
+      | else-next-readings-via-then-next-readings+else-next-lt-MOST_READINGS w ↦ omega arith
       | else-next-readings-via-else-next-readings w ↦ omega arith
     ]) in
     no_line (take 65536 zs) i (left_of c.ended.result) _ past c.ended.ensures.text

@@ -4,4 +4,4 @@ use Rattle.source.specs.Lines.{lines_of}
 use Rattle.source.proofs.recorder.Recorder.whole.Goals as goal
 
 pub returns : goal.returns
-returns c h = c.from-reading.ensures ∙ ap lines_of (take_all 65536 c.args.readings.now h)
+returns c h = c.from_reading.ensures ∙ ap lines_of (take_all 65536 c.args.readings.now h)
