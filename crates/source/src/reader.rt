@@ -14,29 +14,29 @@ use crate::words::scan_word;
 
 /// Reads the next word as an integer: a sign or none, and digits, within 32 bits.
 pub fn read_integer<S: Source>(s: &mut S, taken: &mut u32) -> ReadValue<i32>
-    ensures told { result ≡ integer_read (waiting s.old) }
-    ensures waits { waiting s.new ≡ rest (waiting s.old) }
-    ensures parts { Parted (waiting s.old) (waiting s.new) }
-    ensures took { Took (waiting s.old) (waiting s.new) taken.old taken.new }
+    ensures told { result ≡ integer_read (S.waiting s.old) }
+    ensures waits { S.waiting s.new ≡ rest (S.waiting s.old) }
+    ensures parts { Parted (S.waiting s.old) (S.waiting s.new) }
+    ensures took { Took (S.waiting s.old) (S.waiting s.new) taken.old taken.new }
 {
     scan_word(s, taken, Numeral::Empty).read()
 }
 
 /// Reads the next word as a boolean, `T` or `F`.
 pub fn read_boolean<S: Source>(s: &mut S, taken: &mut u32) -> ReadValue<bool>
-    ensures told { result ≡ boolean_read (waiting s.old) }
-    ensures waits { waiting s.new ≡ rest (waiting s.old) }
-    ensures parts { Parted (waiting s.old) (waiting s.new) }
-    ensures took { Took (waiting s.old) (waiting s.new) taken.old taken.new }
+    ensures told { result ≡ boolean_read (S.waiting s.old) }
+    ensures waits { S.waiting s.new ≡ rest (S.waiting s.old) }
+    ensures parts { Parted (S.waiting s.old) (S.waiting s.new) }
+    ensures took { Took (S.waiting s.old) (S.waiting s.new) taken.old taken.new }
 {
     scan_word(s, taken, Letter::Missing).truth()
 }
 
 /// Reads the next byte, blank or not, as a signed number; at the end -1. The stream is good in either case.
 pub fn read_character<S: Source>(s: &mut S, taken: &mut u32) -> ReadValue<i8>
-    ensures told { result ≡ character_read (waiting s.old) }
-    ensures waits { waiting s.new ≡ behind (waiting s.old) }
-    ensures took { Took (waiting s.old) (waiting s.new) taken.old taken.new }
+    ensures told { result ≡ character_read (S.waiting s.old) }
+    ensures waits { S.waiting s.new ≡ behind (S.waiting s.old) }
+    ensures took { Took (S.waiting s.old) (S.waiting s.new) taken.old taken.new }
 {
     let next = s.take();
     *taken = taken.saturating_add(u32::from(next.is_some()));

@@ -24,8 +24,8 @@ fn is_blank(byte: u8) -> bool
 
 /// Takes the blanks in front, and tells how many there were.
 fn skip_blanks<S: Source>(s: &mut S) -> u32
-    ensures waits { waiting s.new ≡ after_blanks (waiting s.old) }
-    ensures count { result + length (waiting s.new) ≡ length (waiting s.old) }
+    ensures waits { S.waiting s.new ≡ after_blanks (S.waiting s.old) }
+    ensures count { result + length (S.waiting s.new) ≡ length (S.waiting s.old) }
 {
     let mut count = 0;
     while let Some(byte) = s.peek() {
@@ -40,9 +40,9 @@ fn skip_blanks<S: Source>(s: &mut S) -> u32
 
 /// Takes the bytes before the next blank, which go into `scanner`, and tells how many there were.
 fn scan_run<S: Source, C: Scanner>(s: &mut S, scanner: C) -> (C, u32)
-    ensures value { result.0 ≡ fold after scanner (run (waiting s.old)) }
-    ensures waits { waiting s.new ≡ after_run (waiting s.old) }
-    ensures count { result.1 + length (waiting s.new) ≡ length (waiting s.old) }
+    ensures value { result.0 ≡ fold C.after scanner (run (S.waiting s.old)) }
+    ensures waits { S.waiting s.new ≡ after_run (S.waiting s.old) }
+    ensures count { result.1 + length (S.waiting s.new) ≡ length (S.waiting s.old) }
 {
     let mut scanned = scanner;
     let mut count = 0;
@@ -59,9 +59,9 @@ fn scan_run<S: Source, C: Scanner>(s: &mut S, scanner: C) -> (C, u32)
 
 /// Takes blanks and the next word, which goes into `scanner`, and leaves the byte after it.
 pub fn scan_word<S: Source, C: Scanner>(s: &mut S, taken: &mut u32, scanner: C) -> C
-    ensures value { result ≡ fold after scanner (word (waiting s.old)) }
-    ensures waits { waiting s.new ≡ rest (waiting s.old) }
-    ensures count { taken.new ≡ counted taken.old (gone (waiting s.old) (waiting s.new)) }
+    ensures value { result ≡ fold C.after scanner (word (S.waiting s.old)) }
+    ensures waits { S.waiting s.new ≡ rest (S.waiting s.old) }
+    ensures count { taken.new ≡ counted taken.old (gone (S.waiting s.old) (S.waiting s.new)) }
 {
     let blanks = skip_blanks(s);
     let (scanned, letters) = scan_run(s, scanner);
