@@ -8,7 +8,7 @@ import re
 import sys
 
 WORDS = """in_ok in_err in_default slice_bounds slice_known offset_bounds range_from range_to overflow_add overflow_sub overflow_mul overflow_shl overflow_shr
-overflow_cast overflow_step overflow_neg nonzero_div nonzero_rem as_slice as_mut_slice type_inv invariant_of copy_from_slice push_reserved""".split()
+overflow_cast overflow_step overflow_neg nonzero_div nonzero_rem as_slice as_mut_slice type_inv invariant_of copy_from_slice push_reserved from_residual as_str is_none is_some from_output""".split()
 TOKEN = re.compile(r"[A-Za-z_][\w'+-]*")
 IDENT = re.compile(r"[A-Za-z_]\w*")
 

@@ -45,7 +45,7 @@ pub(crate) fn result(rt: &HostRuntime, r: Result<i32, ArithmeticFault>) -> io::R
 
 fn case(rt: &HostRuntime, x: i32, op: Arithmetic, y: i32) -> io::Result<()> {
     let s = sign(op);
-    print!(rt, "{x} {s} {y} = ")?;
+    print!(rt; "{x} {s} {y} = ")?;
     result(rt, op.apply(x, y))
 }
 
@@ -103,7 +103,7 @@ pub(crate) fn logic(rt: &HostRuntime) -> io::Result<()> {
 /// The operators before one value.
 pub(crate) fn prefixes(rt: &HostRuntime) -> io::Result<()> {
     for x in EDGES {
-        print!(rt, "-({x}) = ")?;
+        print!(rt; "-({x}) = ")?;
         result(rt, Negative.apply(x))?;
     }
     for x in [false, true] {

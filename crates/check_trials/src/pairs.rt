@@ -64,8 +64,8 @@ fn try_infix(rt: &HostRuntime, operator: u16) -> anyhow::Result<()> {
             ];
             let (number, _) = verdict(rt, head(8), &rows, 7)?;
             match number {
-                0 => print!(rt, ".")?,
-                _ => print!(rt, "{}", number % 10)?,
+                0 => print!(rt; ".")?,
+                _ => print!(rt; "{}", number % 10)?,
             }
         }
         println!(rt; "")?;

@@ -66,10 +66,10 @@ fn with_one(row: Row, field: u8) -> Row {
 
 /// For each field a 5 where a 1 in it is refused with 5, and a dash where it is not.
 fn try_code(rt: &HostRuntime, code: u16) -> anyhow::Result<()> {
-    print!(rt, "code {code}: ")?;
+    print!(rt; "code {code}: ")?;
     for field in 0..7u8 {
         let (number, _) = verdict(rt, head(8), &[with_one(lawful(code), field)], 1)?;
-        print!(rt, "{}", if number == 5 { "5" } else { "-" })?;
+        print!(rt; "{}", if number == 5 { "5" } else { "-" })?;
     }
     println!(rt; "")?;
     Ok(())

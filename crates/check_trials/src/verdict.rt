@@ -1,5 +1,5 @@
 //! What check says of some rows.
-use check::check;
+use checker::check;
 use sheet::{HeadNumbers, Row, make};
 
 /// A row's code and fields, line 0.
@@ -40,7 +40,7 @@ pub(crate) fn verdict(
     match make(head, rows, room) {
         Err(refused) => Ok((refused.refusal.number(), 0)),
         Ok(draft) => {
-            let room = check::Room::new(rt.alloc(), space)?;
+            let room = checker::Room::new(rt.alloc(), space)?;
             match check(draft, room) {
                 Ok(sheet) => Ok((0, sheet.lines().len())),
                 Err(refused) => Ok((refused.refusal.number(), refused.row)),

@@ -13,8 +13,8 @@ use Rattle.fault.specs.Faults.{cause_number}
 use Rattle.rules.specs.declared.refusal.Refusal.{Refusal}
 use Rattle.rules.specs.declared.refusal.Refusal.TheVariants.{Sizes}
 use Rattle.rules.specs.Rules.{Judged, unless as passing, value, sized}
-use Rattle.check.specs.Blocks.{typing_of}
-use Rattle.check.proofs.Passes.{unless_ok}
+use Rattle.checker.specs.Blocks.{typing_of}
+use Rattle.checker.proofs.Passes.{unless_ok}
 use Rattle.meaning.specs.declared.layouts.Layout.{Layout}
 use Rattle.meaning.specs.Values.{Cell, fixed, within, lawful}
 use Rattle.meaning.specs.Plans.{Plan, Outcome, gives, faults, outcome, unless, unless_outside, finished, count_fits, fits}

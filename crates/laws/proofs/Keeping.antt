@@ -25,8 +25,8 @@ use Rattle.instruction.specs.declared.instructions.Expression.{Expression as Mak
 use Rattle.instruction.specs.declared.instructions.Expression.TheVariants as make
 use Rattle.rules.specs.declared.refusal.Refusal.TheVariants.{Unfit, Sizes}
 use Rattle.rules.specs.Rules.{Judged, unless, value, nothing, sized, prefix_rule, elementwise, equality_rule, joins, join_rule, dot_rule, matrix_rule, product_rule, by_rule, infix_rule, interval_rule, stack_rule, pick_rule, picked, pick_two_rule, measure_rule, cast_rule, resize_rule, takes, begins, filled, nulls_rule, declare_rule, assign_rule, store_rule, store_two_rule, make_rule}
-use Rattle.check.specs.Blocks.{typing_of}
-use Rattle.check.proofs.Passes.{unless_ok}
+use Rattle.checker.specs.Blocks.{typing_of}
+use Rattle.checker.proofs.Passes.{unless_ok}
 use Rattle.picks.specs.Indices.{spanned}
 use Rattle.elementwise.specs.Results.{map2, collected}
 use Rattle.meaning.specs.declared.layouts.Layout.{Layout}

@@ -25,9 +25,9 @@ use Rattle.instruction.specs.declared.instructions.Instruction.{Instruction}
 use Rattle.instruction.specs.declared.instructions.Instruction.TheVariants.{Expression, Change, Control}
 use Rattle.rules.specs.declared.refusal.Refusal.TheVariants.{Unfit, Sizes}
 use Rattle.rules.specs.Rules.{unless, nothing, value as judged_as, start_rule, change_rule, return_rule, each_rule, condition_rule, turn_rule, typed}
-use Rattle.check.specs.declared.line.Line.{Line}
-use Rattle.check.specs.Blocks.{at, typing_of, typing_at}
-use Rattle.check.proofs.Passes.{unless_ok}
+use Rattle.checker.specs.declared.line.Line.{Line}
+use Rattle.checker.specs.Blocks.{at, typing_of, typing_at}
+use Rattle.checker.proofs.Passes.{unless_ok}
 use Rattle.meaning.specs.declared.after.After.TheVariants.{Row, Return, Wait}
 use Rattle.meaning.specs.declared.layouts.Layout.{Layout}
 use Rattle.meaning.specs.Values.{scalar_of, fixed, within, lawful, Value, value_of, exactly, truth}

@@ -23,12 +23,12 @@ use Rattle.instruction.specs.declared.instructions.Instruction.TheVariants.{Expr
 use Rattle.instruction.specs.Fields.{fields_of, plain}
 use Rattle.instruction.specs.Forms.{literal_fits, start_of, literal, empty_of, prefixed, infixed, measured, cast_to, declared, expression_of, statement_of, form}
 use Rattle.instruction.specs.Operators.{prefix_of, infix_of, measure_of}
-use Rattle.check.specs.declared.line.Line.{Line}
-use Rattle.check.specs.Blocks.{at, past_end, operands, all, near, below, makes, blocks}
-use Rattle.check.specs.Judge.{Accepted, no_row}
-use Rattle.check.specs.Structure.{says, Structured}
-use Rattle.check.proofs.Passes.{passes}
-use Rattle.check.proofs.Structures.{structured}
+use Rattle.checker.specs.declared.line.Line.{Line}
+use Rattle.checker.specs.Blocks.{at, past_end, operands, all, near, below, makes, blocks}
+use Rattle.checker.specs.Judge.{Accepted, no_row}
+use Rattle.checker.specs.Structure.{says, Structured}
+use Rattle.checker.proofs.Passes.{passes}
+use Rattle.checker.proofs.Structures.{structured}
 use Rattle.laws.specs.Reads.{reads, resume_reads, reopen_reads, AllUnder}
 use Rattle.laws.specs.Keeps.{Noted, AllNoted, resumed, reopened, advanced, written_fits}
 use Rattle.laws.specs.Accepted.{AcceptedSafe}

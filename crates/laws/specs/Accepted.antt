@@ -2,9 +2,9 @@
 use Rattle.std.specs.Prelude.{ℕ, ◌<◌, List, length}
 use Rattle.sheet.specs.declared.row.Row.{Row as SheetRow}
 use Rattle.types.specs.declared.typing.Typing.{Typing}
-use Rattle.check.specs.declared.line.Line.{Line}
-use Rattle.check.specs.Blocks.{at, typing_at}
-use Rattle.check.specs.Judge.{Accepted}
+use Rattle.checker.specs.declared.line.Line.{Line}
+use Rattle.checker.specs.Blocks.{at, typing_at}
+use Rattle.checker.specs.Judge.{Accepted}
 use Rattle.meaning.specs.States.{State, value_at}
 use Rattle.meaning.specs.Acts.{Answer, Acts}
 use Rattle.laws.specs.Fitting.{AllReady}

@@ -12,8 +12,8 @@ use Rattle.instruction.specs.declared.instructions.Control.TheVariants as contro
 use Rattle.instruction.specs.declared.instructions.Instruction.{Instruction}
 use Rattle.instruction.specs.declared.instructions.Instruction.TheVariants.{Expression, Change, Control}
 use Rattle.rules.specs.Rules.{typed}
-use Rattle.check.specs.declared.line.Line.{Line}
-use Rattle.check.specs.Blocks.{at, typing_at}
+use Rattle.checker.specs.declared.line.Line.{Line}
+use Rattle.checker.specs.Blocks.{at, typing_at}
 use Rattle.meaning.specs.declared.after.After.TheVariants.{Row, Return, Wait}
 use Rattle.meaning.specs.Values.{Value}
 use Rattle.meaning.specs.Texts.{text}

@@ -20,8 +20,8 @@ use Rattle.instruction.specs.declared.instructions.Control.{Control as Turn}
 use Rattle.instruction.specs.declared.instructions.Control.TheVariants as control
 use Rattle.instruction.specs.declared.instructions.Instruction.{Instruction}
 use Rattle.instruction.specs.declared.instructions.Instruction.TheVariants.{Expression, Change, Control}
-use Rattle.check.specs.declared.line.Line.{Line}
-use Rattle.check.specs.Blocks.{at}
+use Rattle.checker.specs.declared.line.Line.{Line}
+use Rattle.checker.specs.Blocks.{at}
 use Rattle.meaning.specs.declared.after.After.{After}
 use Rattle.meaning.specs.declared.after.After.TheVariants.{Row, Return, Wait}
 use Rattle.meaning.specs.Values.{Cell, null_of, scalar_of, Value, value_of, exactly, elements_of, first, truth}

@@ -3,8 +3,8 @@ use Rattle.std.proofs.Common.{◌≡◌, ℕ, true, List, IfOk, Ok, Err, Result,
 use Rattle.types.specs.declared.typing.Typing.{Typing}
 use Rattle.fault.specs.declared.faults.Fault.{Fault}
 use Rattle.instruction.specs.declared.instructions.Instruction.{Instruction}
-use Rattle.check.specs.declared.line.Line.{Line}
-use Rattle.check.specs.Blocks.{at}
+use Rattle.checker.specs.declared.line.Line.{Line}
+use Rattle.checker.specs.Blocks.{at}
 use Rattle.meaning.specs.declared.layouts.Layout.{Layout}
 use Rattle.meaning.specs.declared.places.Place.{Place}
 use Rattle.meaning.specs.Values.{within}

@@ -10,10 +10,10 @@ use Rattle.instruction.specs.declared.instructions.Change.TheVariants as change
 use Rattle.instruction.specs.declared.instructions.Control.{Control as Turn}
 use Rattle.instruction.specs.declared.instructions.Instruction.{Instruction}
 use Rattle.instruction.specs.declared.instructions.Instruction.TheVariants.{Expression, Change, Control}
-use Rattle.check.specs.declared.line.Line.{Line}
-use Rattle.check.specs.Blocks.{at, operands, all, near, makes, declares}
-use Rattle.check.specs.Structure.{Structured, Visible, Ranging, says}
-use Rattle.check.proofs.Near.{near_tells}
+use Rattle.checker.specs.declared.line.Line.{Line}
+use Rattle.checker.specs.Blocks.{at, operands, all, near, makes, declares}
+use Rattle.checker.specs.Structure.{Structured, Visible, Ranging, says}
+use Rattle.checker.proofs.Near.{near_tells}
 use Rattle.laws.specs.Reads.{make_reads, AllUnder}
 use Rattle.meaning.proofs.Shells.{never}
 use Rattle.rows.specs.Changing.{Reaches}

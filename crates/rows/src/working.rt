@@ -1,7 +1,7 @@
 //! One row of a checked sheet at work.
 ghost use Rattle.std.specs.Prelude.{◌≡◌, ◌<◌, ◌≤◌, length};
-ghost use Rattle.check.specs.Blocks.{at};
-ghost use Rattle.check.specs.Structure.{Structured};
+ghost use Rattle.checker.specs.Blocks.{at};
+ghost use Rattle.checker.specs.Structure.{Structured};
 ghost use Rattle.meaning.specs.Acts.{Acts};
 ghost use Rattle.meaning.specs.Works.{Ample};
 ghost use Rattle.meaning.specs.States.{tables};
@@ -10,7 +10,7 @@ ghost use Rattle.statements.specs.Frames.{state_of};
 ghost use Rattle.rows.specs.Working.{Expresses};
 
 use crate::changing::change_row;
-use check::Line;
+use checker::Line;
 use evaluation::evaluate;
 use fault::Fault;
 use instruction::{Expression, Instruction};

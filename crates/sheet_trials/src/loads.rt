@@ -106,7 +106,7 @@ fn try_damage(rt: &HostRuntime) -> anyhow::Result<()> {
         if let Some(b) = file.get_mut(42 + i) {
             *b = b.wrapping_add(1);
         }
-        print!(rt, "trailer byte {i}, ")?;
+        print!(rt; "trailer byte {i}, ")?;
         show(rt, "one more", file.as_slice(), MAX_ROWS)?;
     }
     Ok(())

@@ -35,7 +35,7 @@ fn try_buffers(rt: &HostRuntime, draft: &Draft) -> anyhow::Result<()> {
     for len in [0usize, 61, 62, 63, 100] {
         let mut out = vec![in rt.alloc(); 9u8; len]?;
         let said = draft.save(b"hi", out.as_mut_slice());
-        print!(rt, "buffer of {len}, ")?;
+        print!(rt; "buffer of {len}, ")?;
         show(rt, "a note of 2", said, out.as_slice())?;
     }
     Ok(())
@@ -46,7 +46,7 @@ fn try_notes(rt: &HostRuntime, draft: &Draft) -> anyhow::Result<()> {
         let note = vec![in rt.alloc(); 65u8; len]?;
         let mut out = vec![in rt.alloc(); 9u8; 5000]?;
         let said = draft.save(note.as_slice(), out.as_mut_slice());
-        print!(rt, "note of {len}, ")?;
+        print!(rt; "note of {len}, ")?;
         show(rt, "to 5000", said, out.as_slice())?;
     }
     let mut out = [9u8; 10];

@@ -3,7 +3,7 @@
 #![tactic(auto)]
 
 use anyhow::anyhow;
-use check::{Line, check};
+use checker::{Line, check};
 use sheet::{Draft, MAX_ROWS, Row, load};
 use std::fs;
 use words::{Escaped, HeadWords, RowLine};
@@ -37,7 +37,7 @@ fn save_again(rt: &HostRuntime, file: &[u8], note: &[u8], draft: &Draft) -> anyh
 
 /// Lists the rows with the types that check finds, and tells what check says.
 fn list_rows(rt: &HostRuntime, draft: Draft) -> anyhow::Result<Draft> {
-    let room = check::Room::new(rt.alloc(), draft.rows().len())?;
+    let room = checker::Room::new(rt.alloc(), draft.rows().len())?;
     match check(draft, room) {
         Ok(sheet) => {
             print_rows(rt, sheet.rows(), sheet.lines())?;

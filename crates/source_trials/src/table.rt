@@ -13,7 +13,7 @@ pub(crate) fn show<T: Display + Drop, S: Source>(
 ) -> io::Result<()> {
     let ReadValue { value, state } = read;
     let state = state.number();
-    print!(rt, "{name}: {value}, state {state}, taken {taken}, next ")?;
+    print!(rt; "{name}: {value}, state {state}, taken {taken}, next ")?;
     match s.peek() {
         Some(byte) => println!(rt; "{byte}"),
         None => println!(rt; "end"),

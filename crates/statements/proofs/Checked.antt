@@ -7,9 +7,9 @@ use Rattle.instruction.specs.declared.instructions.Control.{Control as Turn}
 use Rattle.instruction.specs.declared.instructions.Control.TheVariants as control
 use Rattle.instruction.specs.declared.instructions.Instruction.{Instruction}
 use Rattle.instruction.specs.declared.instructions.Instruction.TheVariants.{Expression, Change, Control}
-use Rattle.check.specs.declared.line.Line.{Line}
-use Rattle.check.specs.Blocks.{at, operands, all, near}
-use Rattle.check.specs.Structure.{Structured, says}
+use Rattle.checker.specs.declared.line.Line.{Line}
+use Rattle.checker.specs.Blocks.{at, operands, all, near}
+use Rattle.checker.specs.Structure.{Structured, says}
 use Rattle.statements.specs.Ready.{DomainBefore, Reopens, Ready}
 
 module _ (lines : List Line) (w : ℕ) (head : Typing) (sheet : Structured lines w head) where

@@ -3,8 +3,8 @@ use Rattle.std.proofs.Common.{◌≡◌, ℕ, ◌⊎◌, List, get_or, sym, ap, 
 use Rattle.std.proofs.lemmas.List.{get_or_default}
 use Rattle.instruction.specs.declared.instructions.Control.{Control as Turn}
 use Rattle.instruction.specs.declared.instructions.Control.TheVariants as control
-use Rattle.check.specs.declared.line.Line.{Line}
-use Rattle.check.specs.Blocks.{at, past_end}
+use Rattle.checker.specs.declared.line.Line.{Line}
+use Rattle.checker.specs.Blocks.{at, past_end}
 use Rattle.meaning.specs.declared.places.Place.{Place}
 use Rattle.meaning.specs.States.{State}
 use Rattle.meaning.specs.Acts.{Step}

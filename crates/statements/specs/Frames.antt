@@ -5,7 +5,7 @@ use Rattle.source.specs.declared.state.StreamState.{StreamState}
 use Rattle.fault.specs.declared.faults.Fault.{Fault}
 use Rattle.instruction.specs.declared.instructions.Control.{Control as Turn}
 use Rattle.instruction.specs.declared.instructions.Instruction.{Instruction}
-use Rattle.check.specs.declared.line.Line.{Line}
+use Rattle.checker.specs.declared.line.Line.{Line}
 use Rattle.meaning.specs.declared.after.After.TheVariants.{Row}
 use Rattle.meaning.specs.declared.layouts.Layout.{Layout}
 use Rattle.meaning.specs.declared.places.Place.{Place}

@@ -7,7 +7,7 @@ ghost use Rattle.statements.specs.Ready.{TurnDomain, DomainBefore, Ready};
 
 use crate::conditions::branch;
 use crate::each::{advance, resume_each};
-use check::Line;
+use checker::Line;
 use fault::Fault;
 use instruction::{Control, Instruction};
 use meaning::{After, Place, Slip};

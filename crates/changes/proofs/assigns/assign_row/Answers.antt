@@ -12,11 +12,11 @@ returns-in_err-form c =
     let t = tables a.booleans.now a.characters.now a.integers.now in
     let x = c.in_ok-x.x in
     let y = c.in_ok-y.y in
-    let r = c.from-residual-in_err-form.result in
+    let r = c.from_residual-in_err-form.result in
     record {
       filled = filled_2 p a.v a.slips.now t t r a.v a.a assigned x y c.in_ok-x.ensures.is c.in_ok-y.ensures.is
-          (assign_refused p t a.v a.a x y c.in_ok-y.ensures.lawful r c.in_err-form.field-0.0 c.from-residual-in_err-form.ensures.1 c.in_err-form.ensures.is);
-      within = IfOk-from_err r _ c.from-residual-in_err-form.ensures.0;
+          (assign_refused p t a.v a.a x y c.in_ok-y.ensures.lawful r c.in_err-form.field-0.0 c.from_residual-in_err-form.ensures.1 c.in_err-form.ensures.is);
+      within = IfOk-from_err r _ c.from_residual-in_err-form.ensures.0;
     }
 
 pub write_value-requires : goal.write_value-requires

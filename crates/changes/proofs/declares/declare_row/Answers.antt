@@ -11,11 +11,11 @@ returns-in_err-form c =
     let p = a.place in
     let t = tables a.booleans.now a.characters.now a.integers.now in
     let y = c.in_ok-y.y in
-    let r = c.from-residual-in_err-form.result in
+    let r = c.from_residual-in_err-form.result in
     record {
       filled = filled_1 p p.row a.slips.now t t r a.a (declared a.w) y c.in_ok-y.ensures.is
-          (declare_refused p t a.w a.a y c.in_ok-y.ensures.lawful r c.in_err-form.field-0.0 c.from-residual-in_err-form.ensures.1 c.in_err-form.ensures.is);
-      within = IfOk-from_err r _ c.from-residual-in_err-form.ensures.0;
+          (declare_refused p t a.w a.a y c.in_ok-y.ensures.lawful r c.in_err-form.field-0.0 c.from_residual-in_err-form.ensures.1 c.in_err-form.ensures.is);
+      within = IfOk-from_err r _ c.from_residual-in_err-form.ensures.0;
     }
 
 pub write_beginning-requires : goal.write_beginning-requires

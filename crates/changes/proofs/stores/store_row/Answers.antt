@@ -15,11 +15,11 @@ returns-in_err-form c =
     let x = c.in_ok-x.x in
     let y = c.in_ok-y.y in
     let z = c.in_ok-z.z in
-    let r = c.from-residual-in_err-form.result in
+    let r = c.from_residual-in_err-form.result in
     record {
       filled = filled_3 p a.v a.slips.now t t r a.v a.b a.c stored_at x y z c.in_ok-x.ensures.is c.in_ok-y.ensures.is c.in_ok-z.ensures.is
-          (store_refused p t a.v a.b a.c x y z c.in_ok-y.ensures.lawful r c.in_err-form.field-0.0 c.from-residual-in_err-form.ensures.1 c.in_err-form.ensures.is);
-      within = IfOk-from_err r _ c.from-residual-in_err-form.ensures.0;
+          (store_refused p t a.v a.b a.c x y z c.in_ok-y.ensures.lawful r c.in_err-form.field-0.0 c.from_residual-in_err-form.ensures.1 c.in_err-form.ensures.is);
+      within = IfOk-from_err r _ c.from_residual-in_err-form.ensures.0;
     }
 
 pub list_at-index-requires : goal.list_at-index-requires

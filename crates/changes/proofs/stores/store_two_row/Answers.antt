@@ -16,12 +16,12 @@ returns-in_err-form c =
     let y = c.in_ok-y.y in
     let z = c.in_ok-z.z in
     let w = c.in_ok-w.w in
-    let r = c.from-residual-in_err-form.result in
+    let r = c.from_residual-in_err-form.result in
     record {
       filled = filled_with p a.v a.slips.now t t r a.v (λ o. by3 p.width (value_in p.width a.slips.now t) a.b a.c a.d (stored_at_two o)) x c.in_ok-x.ensures.is
           (filled_3 p a.v a.slips.now t t r a.b a.c a.d (stored_at_two (value_from p.width t a.v x)) y z w c.in_ok-y.ensures.is c.in_ok-z.ensures.is c.in_ok-w.ensures.is
-          (refused p a.v t r c.in_err-form.field-0.0 c.from-residual-in_err-form.ensures.1 (stored_at_two (value_from p.width t a.v x) (value_from p.width t a.b y) (value_from p.width t a.c z) (value_from p.width t a.d w)) c.in_err-form.ensures.is));
-      within = IfOk-from_err r _ c.from-residual-in_err-form.ensures.0;
+          (refused p a.v t r c.in_err-form.field-0.0 c.from_residual-in_err-form.ensures.1 (stored_at_two (value_from p.width t a.v x) (value_from p.width t a.b y) (value_from p.width t a.c z) (value_from p.width t a.d w)) c.in_err-form.ensures.is));
+      within = IfOk-from_err r _ c.from_residual-in_err-form.ensures.0;
     }
 
 pub store_at_cells-stored-requires : goal.store_at_cells-stored-requires

@@ -6,7 +6,7 @@ use Rattle.elementwise.proofs.products.dot_product.Goals as goal
 pub returns-in_err-sum : goal.returns-in_err-sum
 returns-in_err-sum c =
     let a = c.args in
-    let p = err_from_is_err_and c.from-residual.result c.from-residual.ensures.1 in
+    let p = err_from_is_err_and c.from_residual.result c.from_residual.ensures.1 in
     rw (p.1, p.2) (dot_named a.table.now a.a a.b a.n (Err _) c.requires.right c.in_err-sum.ensures)
 
 pub returns : goal.returns

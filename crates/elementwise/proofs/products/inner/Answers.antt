@@ -10,7 +10,7 @@ returns-in_err-sum c =
     let fx : SFits w32 (get_or a.source.now (a.a + k) (pos 0)) = search rules in
     let fy : SFits w32 (get_or a.source.now (a.b + k * a.stride) (pos 0)) = search rules in
     let e = simp (to_z-of_z, c.loop-k.sum-is) at c.in_err-sum.ensures in
-    let p = err_from_is_err_and c.from-residual.result c.from-residual.ensures.1 in
+    let p = err_from_is_err_and c.from_residual.result c.from_residual.ensures.1 in
     rw (p.1, p.2) (inner_faults a.source.now a.a a.b a.stride a.n k c.loop-k.sum c.requires.row _ _ c.loop-k-test.true refl refl _ e ∙ (simp c.loop-k.sum-is at c.loop-k.invariant))
 
 pub loop-k-preserved : goal.loop-k-preserved

@@ -1,4 +1,4 @@
-use Rattle.std.proofs.Common.{take, arith, rules}
+use Rattle.std.proofs.Common.{take, sym, subst, arith, rules}
 use Rattle.std.proofs.lemmas.List.FromFn.{length-map-range_with_len, get_or-map-range_with_len}
 use Rattle.std.proofs.lemmas.List.Edits.{paste_none}
 use Rattle.element.specs.Cells.{tabulate}
@@ -11,7 +11,8 @@ loop-k-init g c = search (rules, paste_none)
 pub cell-requires : goal.cell-requires
 cell-requires g c =
     let a = c.args in
-    rw (still_below a.table.now a.to (tabulate a.n (g.R.Rule.gives a.rule.now (take a.to a.table.now))) _ _ c.loop-k.invariant.1 (omega arith)) (c.requires.reads _ c.loop-k-test.true)
+    let same = still_below a.table.now a.to (tabulate a.n (g.R.Rule.gives a.rule.now (take a.to a.table.now))) _ _ c.loop-k.invariant.1 (omega arith) in
+    subst (λ t. g.R.Rule.can a.rule.now t c.loop-k.k) (sym same) (c.requires.reads _ c.loop-k-test.true)
 
 pub loop-k-preserved : goal.loop-k-preserved
 loop-k-preserved g c = search (rules, make_more)

@@ -1,4 +1,4 @@
-use Rattle.std.proofs.Common.{Err, sym, ap, ◌∙◌, arith, rules}
+use Rattle.std.proofs.Common.{Err, sym, ap, ◌∙◌, subst, arith, rules}
 use Rattle.std.proofs.lemmas.List.FromFn.{length-map-range_with_len}
 use Rattle.elementwise.proofs.Collects.{sofar_none, sofar_more, sofar_below, given_here, wrote_all, wrote_stops}
 use Rattle.elementwise.proofs.rules.write.Goals as goal
@@ -7,7 +7,9 @@ pub loop-k-init : goal.loop-k-init
 loop-k-init g c = search (rules, sofar_none)
 
 pub cell-requires : goal.cell-requires
-cell-requires g c = rw (sofar_below _ _ _ _ _ _ c.loop-k.invariant.1 (omega arith)) (c.requires.reads _ c.loop-k-test.true)
+cell-requires g c =
+    let same = sofar_below _ _ _ _ _ _ c.loop-k.invariant.1 (omega arith) in
+    subst (λ t. g.R.Rule.can c.args.rule.now t c.loop-k.k) (sym same) (c.requires.reads _ c.loop-k-test.true)
 
 pub loop-k-preserved : goal.loop-k-preserved
 loop-k-preserved g c = let h = c.in-Ok.ensures in search (rules, sofar_more, given_here, length-map-range_with_len)

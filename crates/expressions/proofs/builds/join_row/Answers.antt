@@ -10,7 +10,7 @@ use Rattle.expressions.proofs.builds.join_row.Goals as goal
 
 pub returns-in_err-form : goal.returns-in_err-form
 returns-in_err-form c =
-    refused_2 c.args.place c.args.slips.now (tables c.args.booleans.now c.args.characters.now c.args.integers.now) c.from-residual-in_err-form.result c.in_err-form.field-0.0 c.from-residual-in_err-form.ensures.1
+    refused_2 c.args.place c.args.slips.now (tables c.args.booleans.now c.args.characters.now c.args.integers.now) c.from_residual-in_err-form.result c.in_err-form.field-0.0 c.from_residual-in_err-form.ensures.1
     c.args.a c.args.b joined c.in_ok-x.x c.in_ok-y.y c.in_ok-x.ensures.is c.in_ok-y.ensures.is c.in_err-form.ensures.is
 
 pub join-requires : goal.join-requires

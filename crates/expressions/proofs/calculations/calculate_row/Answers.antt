@@ -13,7 +13,7 @@ use Rattle.expressions.proofs.calculations.calculate_row.Goals as goal
 
 pub returns-in_err-form : goal.returns-in_err-form
 returns-in_err-form c bs cs =
-    refused_2 c.args.place c.args.slips.now (tables bs cs c.args.integers.now) c.from-residual-in_err-form.result c.in_err-form.field-0.0 c.from-residual-in_err-form.ensures.1
+    refused_2 c.args.place c.args.slips.now (tables bs cs c.args.integers.now) c.from_residual-in_err-form.result c.in_err-form.field-0.0 c.from_residual-in_err-form.ensures.1
     c.args.a c.args.b (calculated c.args.op) c.in_ok-x.x c.in_ok-y.y c.in_ok-x.ensures.is c.in_ok-y.ensures.is c.in_err-form.ensures.is
 
 pub overflow_mul-form : goal.overflow_mul-form
@@ -42,9 +42,9 @@ returns-in_err-at_row c bs cs =
     let s = within_small p.width form c.in_ok-form.ensures.within in
     let e = pair_elements p Integer Integer f t c.args.a c.args.b x y form c.in_ok-form.ensures.is
     c.in_ok-x.ensures.lawful c.in_ok-y.ensures.lawful c.cells_of-left.result c.cells_of-right.result c.cells_of-left.ensures c.cells_of-right.ensures in
-    made_2 p c.args.slips.now t _ c.from-residual-in_err-at_row.result c.args.a c.args.b (calculated c.args.op) x y c.in_ok-x.ensures.is c.in_ok-y.ensures.is
+    made_2 p c.args.slips.now t _ c.from_residual-in_err-at_row.result c.args.a c.args.b (calculated c.args.op) x y c.in_ok-x.ensures.is c.in_ok-y.ensures.is
     (wrote_fault p t (calculated c.args.op (value_from p.width t c.args.a x) (value_from p.width t c.args.b y)) form c.in_ok-form.ensures.is refl _ e c.start_of-to.result _ c.start_of-to.ensures _ c.calculate-worked.result c.calculate-worked.ensures
-    s.elements c.calculate-worked.auto.table c.from-residual-in_err-at_row.result c.in_err-at_row.field-0.0 c.from-residual-in_err-at_row.ensures.1 c.in_err-at_row.ensures)
+    s.elements c.calculate-worked.auto.table c.from_residual-in_err-at_row.result c.in_err-at_row.field-0.0 c.from_residual-in_err-at_row.ensures.1 c.in_err-at_row.ensures)
 
 pub returns : goal.returns
 returns c bs cs =

@@ -13,7 +13,7 @@ use Rattle.expressions.proofs.calculations.decide_row.Goals as goal
 
 pub returns-in_err-form : goal.returns-in_err-form
 returns-in_err-form c cs is =
-    refused_2 c.args.place c.args.slips.now (tables c.args.booleans.now cs is) c.from-residual-in_err-form.result c.in_err-form.field-0.0 c.from-residual-in_err-form.ensures.1
+    refused_2 c.args.place c.args.slips.now (tables c.args.booleans.now cs is) c.from_residual-in_err-form.result c.in_err-form.field-0.0 c.from_residual-in_err-form.ensures.1
     c.args.a c.args.b (decided_by c.args.op) c.in_ok-x.x c.in_ok-y.y c.in_ok-x.ensures.is c.in_ok-y.ensures.is c.in_err-form.ensures.is
 
 pub overflow_mul-form : goal.overflow_mul-form

@@ -18,7 +18,7 @@ pub returns-in_err-form : goal.returns-in_err-form
 returns-in_err-form c bs cs =
     let p = c.args.place in
     let t = tables bs cs c.args.integers.now in
-    refused_2 p c.args.slips.now t c.from-residual-in_err-form.result c.in_err-form.field-0.0 c.from-residual-in_err-form.ensures.1
+    refused_2 p c.args.slips.now t c.from_residual-in_err-form.result c.in_err-form.field-0.0 c.from_residual-in_err-form.ensures.1
     c.args.a c.args.b interval c.in_ok-x.x c.in_ok-y.y c.in_ok-x.ensures.is c.in_ok-y.ensures.is
     (c.in_err-form.ensures.is ∙ interval_guard p t c.args.a c.args.b c.in_ok-x.x c.in_ok-y.y c.in_ok-x.ensures.lawful c.in_ok-y.ensures.lawful c.start_of-low.result c.start_of-high.result c.start_of-low.ensures c.start_of-high.ensures c.are_bounds.result c.is_upward.result c.are_bounds.ensures c.is_upward.ensures)
 

@@ -13,7 +13,7 @@ use Rattle.expressions.proofs.prefixes.negate_row.Goals as goal
 
 pub returns-in_err-form : goal.returns-in_err-form
 returns-in_err-form c bs cs =
-    refused_1 c.args.place c.args.slips.now (tables bs cs c.args.integers.now) c.from-residual-in_err-form.result c.in_err-form.field-0.0 c.from-residual-in_err-form.ensures.1
+    refused_1 c.args.place c.args.slips.now (tables bs cs c.args.integers.now) c.from_residual-in_err-form.result c.in_err-form.field-0.0 c.from_residual-in_err-form.ensures.1
     c.args.a (prefixed Minus) c.in_ok-x.x c.in_ok-x.ensures.is c.in_err-form.ensures.is
 
 pub overflow_mul-form : goal.overflow_mul-form
@@ -36,9 +36,9 @@ returns-in_err-at_row c bs cs =
     let t = tables bs cs c.args.integers.now in
     let s = within_small p.width form c.in_ok-form.ensures.within in
     let e = ap (λ (xs : List ℤ). collected 1 (map negated xs)) (own_cells p Integer t c.args.a x form c.in_ok-form.ensures.is c.start_of-at.result c.start_of-at.ensures) in
-    made_1 p c.args.slips.now t _ c.from-residual-in_err-at_row.result c.args.a (prefixed Minus) x c.in_ok-x.ensures.is
+    made_1 p c.args.slips.now t _ c.from_residual-in_err-at_row.result c.args.a (prefixed Minus) x c.in_ok-x.ensures.is
     (wrote_fault p t (prefixed Minus (value_from p.width t c.args.a x)) form c.in_ok-form.ensures.is refl _ e c.start_of-to.result _ c.start_of-to.ensures _ c.negate-worked.result c.negate-worked.ensures
-    s.elements c.negate-worked.auto.table c.from-residual-in_err-at_row.result c.in_err-at_row.field-0.0 c.from-residual-in_err-at_row.ensures.1 c.in_err-at_row.ensures)
+    s.elements c.negate-worked.auto.table c.from_residual-in_err-at_row.result c.in_err-at_row.field-0.0 c.from_residual-in_err-at_row.ensures.1 c.in_err-at_row.ensures)
 
 pub returns : goal.returns
 returns c bs cs =

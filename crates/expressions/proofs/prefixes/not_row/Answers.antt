@@ -12,7 +12,7 @@ use Rattle.expressions.proofs.prefixes.not_row.Goals as goal
 
 pub returns-in_err-form : goal.returns-in_err-form
 returns-in_err-form c cs is =
-    refused_1 c.args.place c.args.slips.now (tables c.args.booleans.now cs is) c.from-residual-in_err-form.result c.in_err-form.field-0.0 c.from-residual-in_err-form.ensures.1
+    refused_1 c.args.place c.args.slips.now (tables c.args.booleans.now cs is) c.from_residual-in_err-form.result c.in_err-form.field-0.0 c.from_residual-in_err-form.ensures.1
     c.args.a (prefixed Not) c.in_ok-x.x c.in_ok-x.ensures.is c.in_err-form.ensures.is
 
 pub overflow_mul-form : goal.overflow_mul-form

@@ -9,7 +9,7 @@ use Rattle.expressions.proofs.products.multiply_row.Goals as goal
 
 pub returns-in_err-form : goal.returns-in_err-form
 returns-in_err-form c bs cs =
-    refused_2 c.args.place c.args.slips.now (tables bs cs c.args.integers.now) c.from-residual-in_err-form.result c.in_err-form.field-0.0 c.from-residual-in_err-form.ensures.1
+    refused_2 c.args.place c.args.slips.now (tables bs cs c.args.integers.now) c.from_residual-in_err-form.result c.in_err-form.field-0.0 c.from_residual-in_err-form.ensures.1
     c.args.a c.args.b multiplied c.in_ok-x.x c.in_ok-y.y c.in_ok-x.ensures.is c.in_ok-y.ensures.is c.in_err-form.ensures.is
 
 pub write_product-worked-requires : goal.write_product-worked-requires
@@ -41,9 +41,9 @@ returns-in_err-at_row c bs cs =
     let g = c.in_ok-form.ensures.is in
     let s = within_small p.width form c.in_ok-form.ensures.within in
     let e = product_elements p t c.args.a c.args.b x y form g lx ly c.start_of-left.result c.start_of-right.result c.start_of-left.ensures c.start_of-right.ensures in
-    made_2 p c.args.slips.now t _ c.from-residual-in_err-at_row.result c.args.a c.args.b multiplied x y c.in_ok-x.ensures.is c.in_ok-y.ensures.is
+    made_2 p c.args.slips.now t _ c.from_residual-in_err-at_row.result c.args.a c.args.b multiplied x y c.in_ok-x.ensures.is c.in_ok-y.ensures.is
     (wrote_fault p t (multiplied (value_from p.width t c.args.a x) (value_from p.width t c.args.b y)) form g refl _ e c.start_of-to.result _ c.start_of-to.ensures _ c.write_product-worked.result c.write_product-worked.ensures
-    (omega (arith, s.elements, same_area p t c.args.a c.args.b x y form g lx ly)) c.write_product-worked.auto.integers c.from-residual-in_err-at_row.result c.in_err-at_row.field-0.0 c.from-residual-in_err-at_row.ensures.1 c.in_err-at_row.ensures)
+    (omega (arith, s.elements, same_area p t c.args.a c.args.b x y form g lx ly)) c.write_product-worked.auto.integers c.from_residual-in_err-at_row.result c.in_err-at_row.field-0.0 c.from_residual-in_err-at_row.ensures.1 c.in_err-at_row.ensures)
 
 pub returns : goal.returns
 returns c bs cs =

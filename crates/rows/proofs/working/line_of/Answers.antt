@@ -1,5 +1,5 @@
 use Rattle.std.proofs.lemmas.List.{get_or_default}
-use Rattle.check.specs.Blocks.{past_end}
+use Rattle.checker.specs.Blocks.{past_end}
 use Rattle.rows.proofs.working.line_of.Goals as goal
 
 pub returns : goal.returns

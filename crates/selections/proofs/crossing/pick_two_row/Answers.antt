@@ -23,7 +23,7 @@ pub returns-in_err-form : goal.returns-in_err-form
 returns-in_err-form c =
     let p = c.args.place in
     let t = tables c.args.booleans.now c.args.characters.now c.args.integers.now in
-    refused_3 p c.args.slips.now t c.from-residual-in_err-form.result c.in_err-form.field-0.0 c.from-residual-in_err-form.ensures.1
+    refused_3 p c.args.slips.now t c.from_residual-in_err-form.result c.in_err-form.field-0.0 c.from_residual-in_err-form.ensures.1
     c.args.a c.args.b c.args.c pick_two c.in_ok-x.x c.in_ok-y.y c.in_ok-z.z c.in_ok-x.ensures.is c.in_ok-y.ensures.is c.in_ok-z.ensures.is
     (c.in_err-form.ensures.is ∙ cross_guarded p t c.args.a c.args.b c.args.c c.in_ok-x.x c.in_ok-y.y c.in_ok-z.z c.in_ok-y.ensures.lawful c.in_ok-z.ensures.lawful c.list_at-rows.result c.list_at-columns.result c.list_at-rows.ensures c.list_at-columns.ensures)
 

@@ -16,7 +16,7 @@ pub returns-in_err-form : goal.returns-in_err-form
 returns-in_err-form c =
     let p = c.args.place in
     let t = tables c.args.booleans.now c.args.characters.now c.args.integers.now in
-    refused_2 p c.args.slips.now t c.from-residual-in_err-form.result c.in_err-form.field-0.0 c.from-residual-in_err-form.ensures.1
+    refused_2 p c.args.slips.now t c.from_residual-in_err-form.result c.in_err-form.field-0.0 c.from_residual-in_err-form.ensures.1
     c.args.a c.args.b pick c.in_ok-x.x c.in_ok-y.y c.in_ok-x.ensures.is c.in_ok-y.ensures.is
     (c.in_err-form.ensures.is ∙ pick_guarded p t c.args.a c.args.b c.in_ok-x.x c.in_ok-y.y c.in_ok-x.ensures.lawful c.in_ok-y.ensures.lawful c.list_at-list.result c.list_at-list.ensures)
 

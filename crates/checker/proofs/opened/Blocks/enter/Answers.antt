@@ -1,0 +1,18 @@
+use Rattle.std.proofs.Common.{◌≡◌, length, sym, refl, ◌∙◌, arith, length-set}
+use Rattle.checker.proofs.Stacks.{room_left, held_enter}
+use Rattle.checker.proofs.opened.Blocks.enter.Goals as goal
+
+pub bounds-self-depth : goal.bounds-self-depth
+bounds-self-depth c = room_left c.args.self.now c.requires
+
+pub invariant_of-self : goal.invariant_of-self
+invariant_of-self c =
+    let lt = room_left c.args.self.now c.requires in
+    let whole = c.args.self.now.whole in
+    (omega arith, (simp length-set whole, tt))
+
+pub returns : goal.returns
+returns c =
+    let lt = room_left c.args.self.now c.requires in
+    let whole = c.args.self.now.whole in
+    held_enter c.args.self.now.depth c.args.self.now.rows c.args.row (omega arith)

@@ -1,0 +1,98 @@
+//! The blocks that are open at a row.
+ghost use Rattle.std.specs.Prelude.{◌≡◌, ◌<◌, ◌≤◌, true, [], ◌∷◌, length};
+ghost use Rattle.checker.specs.Blocks.{outer, turned, after, innermost as innermostOf, member, loop_among, closes_if, closes_block};
+ghost use Rattle.checker.specs.Stack.{open_rows, turn_fits, fits};
+
+use crate::opened::Blocks;
+use instruction::{Control, Instruction};
+
+impl Blocks {
+    /// No block is open.
+    pub fn new() -> Blocks
+        ensures { open_rows result ≡ [] }
+    {
+        Blocks {
+            rows: [0; 32],
+            depth: 0,
+        }
+    }
+
+    /// How many are open.
+    pub fn depth(&self) -> usize
+        ensures { result ≡ length (open_rows self.now) }
+    {
+        self.depth
+    }
+
+    /// Row `row` opens a block.
+    pub fn enter(&mut self, row: u16)
+        requires { length (open_rows self.old) < 32 }
+        ensures { open_rows self.new ≡ row ∷ open_rows self.old }
+    {
+        let depth = self.depth;
+        self.rows[depth] = row;
+        self.depth = depth + 1;
+    }
+
+    /// The innermost block is closed, if one is open.
+    pub fn leave(&mut self)
+        ensures { open_rows self.new ≡ outer (open_rows self.old) }
+    {
+        if self.depth > 0 {
+            self.depth -= 1;
+        }
+    }
+
+    /// The opener of the innermost block.
+    pub fn innermost(&self) -> Option<u16>
+        ensures { result ≡ innermostOf (open_rows self.now) }
+    {
+        if self.depth == 0 {
+            None
+        } else {
+            Some(self.rows[self.depth - 1])
+        }
+    }
+
+    /// Whether the block of this opener is open.
+    pub fn contains(&self, row: u16) -> bool
+        ensures { result ≡ member row (open_rows self.now) }
+    {
+        let mut k = self.depth;
+        while k > 0 {
+            k -= 1;
+            if row == self.rows[k] {
+                return true;
+            }
+        }
+        false
+    }
+
+    fn turn(&mut self, t: Control, p: u16)
+        requires { turn_fits t (open_rows self.old) ≡ true }
+        ensures { open_rows self.new ≡ turned t p (open_rows self.old) }
+    {
+        match t {
+            Control::If(_, _) => self.enter(p),
+            Control::Else(_) => {
+                self.leave();
+                self.enter(p);
+            }
+            Control::Loop(_) => self.enter(p),
+            Control::Each(_, _) => self.enter(p),
+            Control::Test(_) | Control::Break | Control::Continue => {}
+            Control::End(_) => self.leave(),
+        }
+    }
+
+    /// The blocks that are open after row p.
+    pub fn advance(&mut self, i: Instruction, p: u16)
+        requires { fits i (open_rows self.old) ≡ true }
+        ensures { open_rows self.new ≡ after i p (open_rows self.old) }
+    {
+        match i {
+            Instruction::Control(t) => self.turn(t, p),
+            _ => {}
+        }
+    }
+}
