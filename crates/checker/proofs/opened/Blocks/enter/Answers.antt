@@ -9,7 +9,7 @@ pub invariant_of-self : goal.invariant_of-self
 invariant_of-self c =
     let lt = room_left c.args.self.now c.requires in
     let whole = c.args.self.now.whole in
-    (omega arith, (simp length-set whole, tt))
+    record { few = omega arith; whole = simp length-set whole }
 
 pub returns : goal.returns
 returns c =
