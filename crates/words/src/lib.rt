@@ -5,9 +5,9 @@ mod escape;
 mod line;
 mod row;
 mod templates;
-mod types;
+mod typings;
 
 pub use escape::Escaped;
 pub use line::RowLine;
 pub use row::RowWords;
-pub use types::{HeadWords, TypingWords};
+pub use typings::{HeadWords, TypingWords};

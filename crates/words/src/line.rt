@@ -1,6 +1,6 @@
 //! A row on one line, with what is known of it.
 use crate::row::RowWords;
-use crate::types::TypingWords;
+use crate::typings::TypingWords;
 use sheet::{Row, Typing};
 use std::fmt;
 

@@ -1,6 +1,6 @@
 //! Rows in words.
 use crate::templates::template;
-use crate::types::{KindWords, TypingWords};
+use crate::typings::{KindWords, TypingWords};
 use sheet::{Kind, Row, Shape, Size, Typing};
 use std::fmt;
 
