@@ -34,7 +34,7 @@ pub fn change_row<S: Source>(
     requires row { place.row < length slips.old }
     requires room { printed.old ≤ length output.old }
     requires ample { Ample place (length booleans.old) (length characters.old) (length integers.old) }
-    ensures does { step result (state_of taken.new stream.new slips.new booleans.new characters.new integers.new (waiting source.new) output.new printed.new) ≡ changing place head change (state_of taken.old stream.old slips.old booleans.old characters.old integers.old (waiting source.old) output.old printed.old) }
+    ensures does { step result (state_of taken.new stream.new slips.new booleans.new characters.new integers.new (S.waiting source.new) output.new printed.new) ≡ changing place head change (state_of taken.old stream.old slips.old booleans.old characters.old integers.old (S.waiting source.old) output.old printed.old) }
     ensures room { printed.new ≤ length output.new }
 {
     match change {

@@ -72,7 +72,7 @@ pub fn work<S: Source>(
     requires row { place.row < length slips.old }
     requires room { printed.old ≤ length output.old }
     requires ample { Ample place (length booleans.old) (length characters.old) (length integers.old) }
-    ensures acts { Acts place.width place.row place.line (state_of taken.old stream.old slips.old booleans.old characters.old integers.old (waiting source.old) output.old printed.old) head lines.now (at lines.now place.row).target (at lines.now place.row).instruction result (state_of taken.new stream.new slips.new booleans.new characters.new integers.new (waiting source.new) output.new printed.new) }
+    ensures acts { Acts place.width place.row place.line (state_of taken.old stream.old slips.old booleans.old characters.old integers.old (S.waiting source.old) output.old printed.old) head lines.now (at lines.now place.row).target (at lines.now place.row).instruction result (state_of taken.new stream.new slips.new booleans.new characters.new integers.new (S.waiting source.new) output.new printed.new) }
     ensures room { printed.new ≤ length output.new }
 {
     let line = line_of(lines, place.row);

@@ -10,9 +10,9 @@ use std::io;
 
 /// Reads two integers, the second from where the first ends.
 fn read_pair<S: Source>(s: &mut S, taken: &mut u32) -> (ReadValue<i32>, ReadValue<i32>)
-    ensures one { result.0 ≡ integer_read (waiting s.old) }
-    ensures two { result.1 ≡ integer_read (rest (waiting s.old)) }
-    ensures took { Took (waiting s.old) (waiting s.new) taken.old taken.new }
+    ensures one { result.0 ≡ integer_read (S.waiting s.old) }
+    ensures two { result.1 ≡ integer_read (rest (S.waiting s.old)) }
+    ensures took { Took (S.waiting s.old) (S.waiting s.new) taken.old taken.new }
 {
     let one = read_integer(s, taken);
     let two = read_integer(s, taken);

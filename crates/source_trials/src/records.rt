@@ -8,7 +8,7 @@ use std::io;
 
 /// Takes all that waits, and tells how many bytes there were.
 fn count_bytes<S: Source>(s: &mut S) -> u32
-    ensures { result ≡ length (waiting s.old) }
+    ensures { result ≡ length (S.waiting s.old) }
 {
     let mut count = 0;
     while let Some(_) = s.take() {

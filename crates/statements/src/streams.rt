@@ -58,7 +58,7 @@ pub fn read_row<S: Source>(
 ) -> Result<After, Fault>
     requires before { i < place.row }
     requires ample { Ample place (length booleans.old) (length characters.old) (length integers.old) }
-    ensures { FromSource (inputting place i) taken.old stream.old slips.now (tables booleans.old characters.old integers.old) (waiting source.old) result taken.new stream.new (tables booleans.new characters.new integers.new) (waiting source.new) }
+    ensures { FromSource (inputting place i) taken.old stream.old slips.now (tables booleans.old characters.old integers.old) (S.waiting source.old) result taken.new stream.new (tables booleans.new characters.new integers.new) (S.waiting source.new) }
 {
     let x = place.operand(slips, i)?;
     if !Shape::Scalar.same(x.shape) {

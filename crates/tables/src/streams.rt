@@ -81,10 +81,10 @@ pub fn read<S: Source>(
     requires booleans { to < length booleans.old }
     requires characters { to < length characters.old }
     requires integers { to < length integers.old }
-    ensures written { tables booleans.new characters.new integers.new ≡ with_table kind (tables booleans.old characters.old integers.old) (put (table_of kind (tables booleans.old characters.old integers.old)) to ((reading kind (waiting source.old)).value ∷ [])) }
-    ensures told { result ≡ (reading kind (waiting source.old)).state }
-    ensures waits { waiting source.new ≡ unread kind (waiting source.old) }
-    ensures took { taken.new ≡ counted taken.old (gone (waiting source.old) (waiting source.new)) }
+    ensures written { tables booleans.new characters.new integers.new ≡ with_table kind (tables booleans.old characters.old integers.old) (put (table_of kind (tables booleans.old characters.old integers.old)) to ((reading kind (S.waiting source.old)).value ∷ [])) }
+    ensures told { result ≡ (reading kind (S.waiting source.old)).state }
+    ensures waits { S.waiting source.new ≡ unread kind (S.waiting source.old) }
+    ensures took { taken.new ≡ counted taken.old (gone (S.waiting source.old) (S.waiting source.new)) }
 {
     match kind {
         Kind::Boolean => {
