@@ -3,7 +3,7 @@ use Rattle.std.proofs.Common.{◌≡◌, ℕ, zero, suc, ◌+◌, ◌*◌, ◌/�
 use lib.Signed.{le_z_yes, quot_z, rem_z}
 use Rattle.std.proofs.lemmas.Nat.{div-add-mod', mod_below}
 use Rattle.std.proofs.lemmas.Int.{ints}
-use Rattle.arithmetic.specs.Laws.{SignedAs, Divided, Division}
+use Rattle.arithmetic.specs.Laws.{SignedAs, Division}
 
 minus_minus : (q b : ℕ) → neg_ℤ (pos q) *ℤ negsuc b ≡ pos (q * suc b)
 minus_minus zero b = simp zero-mul

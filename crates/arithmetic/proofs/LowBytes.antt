@@ -1,10 +1,9 @@
 -- The low byte of an integer, signed.
-use Rattle.std.proofs.Common.{◌≡◌, ℕ, zero, suc, ◌+◌, ◌-◌, ◌*◌, ◌/◌, ◌%◌, ◌<◌, ◌≤◌, Bool, true, false, cond, ltb, ℤ, pos, negsuc, ◌+ℤ◌, ◌-ℤ◌, ◌*ℤ◌, neg_ℤ, ◌≤ℤ◌, sym, refl, ap, ◌∙◌, arith, ltb-false, ltb-true}
-use lib.Signed.{le_z_yes, lt_z}
+use Rattle.std.proofs.Common.{◌≡◌, ℕ, ◌-◌, ◌/◌, ◌%◌, ◌<◌, ◌≤◌, true, false, ltb, ℤ, pos, negsuc, ◌+ℤ◌, ◌-ℤ◌, ◌*ℤ◌, sym, ap, arith, ltb-false, ltb-true}
 use Rattle.std.proofs.lemmas.Nat.{div-add-mod', mod_below}
 use Rattle.std.proofs.lemmas.Int.{ints}
 use Rattle.std.proofs.lemmas.Bool.{cond_both}
-use Rattle.arithmetic.specs.Casts.{signed, low_byte}
+use Rattle.arithmetic.specs.Casts.{signed}
 use Rattle.arithmetic.specs.Laws.{Low, LowBytes}
 
 -- n from 0 to 255, and z a multiple of 256 above it

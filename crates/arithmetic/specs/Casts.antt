@@ -1,5 +1,5 @@
 -- What a boolean, a character and an integer are as another kind.
-use Rattle.std.specs.Prelude.{ℕ, zero, suc, Bool, true, false, cond, ℤ, pos, negsuc, ◌-ℤ◌, int_lt}
+use Rattle.std.specs.Prelude.{zero, suc, Bool, true, false, cond, ℤ, pos, negsuc, ◌-ℤ◌, int_lt}
 use Rattle.std.specs.Int.{int_rem_euclid}
 
 -- 0 is false, and every other number true

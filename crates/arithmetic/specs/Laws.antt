@@ -1,5 +1,5 @@
 -- Laws of quotients, remainders and low bytes.
-use Rattle.std.specs.Prelude.{◌≡◌, ℕ, ◌<◌, ℤ, pos, negsuc, ◌+ℤ◌, ◌*ℤ◌, ◌≤ℤ◌, ◌≢◌, int_div, int_rem, unsigned_abs}
+use Rattle.std.specs.Prelude.{◌≡◌, ◌<◌, ℤ, pos, negsuc, ◌+ℤ◌, ◌*ℤ◌, ◌≤ℤ◌, ◌≢◌, int_div, int_rem, unsigned_abs}
 use Rattle.arithmetic.specs.Casts.{low_byte}
 
 -- r is 0 or has the sign of x

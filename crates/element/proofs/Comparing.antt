@@ -1,10 +1,8 @@
 -- Two lists compared element by element.
-use Rattle.std.proofs.Common.{◌≡◌, ℕ, zero, suc, ◌+◌, ◌<◌, ◌≤◌, Bool, true, false, List, length, get_or, take, replicate, Decides, sym, refl, ap, ◌∙◌, arith}
-use Rattle.std.proofs.lemmas.List.{take_more_same, take_all, get_or_default, get_or-replicate, length-replicate}
-use Rattle.std.proofs.lemmas.Bool.{true≢false, false≢true}
+use Rattle.std.proofs.Common.{◌≡◌, ℕ, ◌+◌, ◌<◌, ◌≤◌, Bool, true, false, List, length, get_or, take, Decides, sym, refl, ap, ◌∙◌, arith}
+use Rattle.std.proofs.lemmas.List.{take_more_same, take_all, get_or_default}
+use Rattle.std.proofs.lemmas.Bool.{false≢true}
 use Rattle.std.proofs.lemmas.Bool.Decides.{not_from_Decides}
-use Rattle.element.specs.Cells.{cells}
-use Rattle.element.proofs.Writes.{length_cells, get_d_cells}
 
 module _ {X : Type 0} (xs ys : List X) where
   pub same_none : take 0 xs ≡ take 0 ys

@@ -1,8 +1,8 @@
 -- A loop that writes the list R, cell by cell, into a table T from `to` on.
-use Rattle.std.proofs.Common.{◌≡◌, ℕ, ◌+◌, ◌-◌, ◌<◌, ◌≤◌, List, [], ◌∷◌, ◌++◌, reverse, length, get_or, take, drop, set, replicate, sym, refl, ap, ◌∙◌, ⊎_elim, arith}
+use Rattle.std.proofs.Common.{◌≡◌, ℕ, ◌+◌, ◌-◌, ◌<◌, ◌≤◌, List, [], ◌∷◌, ◌++◌, length, get_or, take, drop, set, replicate, sym, refl, ap, ◌∙◌, ⊎_elim, arith}
 use lib.Seq.{paste}
 use Rattle.std.proofs.lemmas.List.Edits.{paste_none, paste_more, paste-paste, drop-paste, length-paste}
-use Rattle.std.proofs.lemmas.List.{get_or_append_left, get_or-take, length-append, length-take-le, length-take, length-drop, length-replicate, length-reverse, get_or-reverse, get_or-drop, get_or-replicate, get_or-append_right, get_or_past, get_or_default, take-append-le, take-take, drop-take, drop-drop, take_all}
+use Rattle.std.proofs.lemmas.List.{get_or_append_left, get_or-take, length-append, length-take-le, length-take, length-drop, length-replicate, get_or-drop, get_or-replicate, get_or-append_right, get_or_past, get_or_default, take-append-le, take-take, drop-take, drop-drop, take_all}
 use Rattle.std.proofs.lemmas.Bool.{cases_lt}
 use Rattle.std.proofs.lemmas.List.FromFn.{length-map-range_with_len, get_or-map-range_with_len}
 use Rattle.element.specs.Cells.{put, cells, tabulate, padded}

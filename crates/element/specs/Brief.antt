@@ -1,5 +1,5 @@
 -- The text of an integer has at most 11 bytes: ten digits and a sign.
-use Rattle.std.specs.Prelude.{◌≡◌, ℕ, ◌+◌, ◌^◌, ◌<◌, ◌≤◌, cond, List, [], length, ℤ, nat_lt}
+use Rattle.std.specs.Prelude.{ℕ, ◌^◌, ◌<◌, ◌≤◌, List, [], length, ℤ, nat_lt}
 use Rattle.std.proofs.Common.{arith, ltb-true, lit≤}
 use Rattle.std.specs.Int.Signed.{mag}
 use Rattle.std.specs.Fmt.{signed_decimal}

@@ -1,12 +1,12 @@
 -- Loops that pick elements by indices.
-use Rattle.std.proofs.Common.{◌≡◌, ℕ, zero, suc, ◌+◌, ◌-◌, ◌*◌, ◌<◌, ◌≤◌, List, [], ◌∷◌, ◌++◌, map, length, get_or, take, drop, set, ℤ, pos, Some, None, Ok, Err, Option, Result, sym, refl, ap, ◌∙◌, subst, le_refl, arith}
+use Rattle.std.proofs.Common.{◌≡◌, ℕ, ◌+◌, ◌*◌, ◌<◌, ◌≤◌, List, [], map, length, get_or, take, set, ℤ, pos, Some, None, Ok, Err, Option, Result, sym, ap, ◌∙◌, subst, le_refl, arith}
 use lib.Seq.{paste}
 use Rattle.std.proofs.lemmas.List.{length-map, get_or-map, get_or_default, take_all}
 use Rattle.picks.specs.declared.indices.Outside.{Outside}
 use Rattle.element.specs.Cells.{put, cells, joined}
 use Rattle.picks.specs.Indices.{place_of}
 use Rattle.picks.specs.Picks.{picked, crossed, Guarded}
-use Rattle.element.proofs.Writes.{copy_more, length_cells, get_d_cells, cells_below}
+use Rattle.element.proofs.Writes.{copy_more, get_d_cells, cells_below}
 use Rattle.element.proofs.Lines.{row_below, cells_cells, Wide, line_more}
 
 module _ {X : Type 0} (null : X) (T : List X) (from have to : ℕ) (js : List ℤ) where

@@ -1,10 +1,10 @@
 -- Texts with spaces between them, one by one.
-use Rattle.std.proofs.Common.{◌≡◌, ℕ, zero, suc, ◌+◌, ◌-◌, ◌*◌, ◌<◌, ◌≤◌, List, [], ◌∷◌, ◌++◌, map, length, get_or, take, drop, set, sym, refl, ap, ◌∙◌, subst, append_assoc, le_refl, add_assoc, suc-mul, arith}
+use Rattle.std.proofs.Common.{◌≡◌, ℕ, zero, suc, ◌+◌, ◌*◌, ◌<◌, ◌≤◌, List, [], ◌∷◌, ◌++◌, map, length, get_or, take, set, sym, refl, ap, ◌∙◌, append_assoc, add_assoc, suc-mul, arith}
 use Rattle.std.proofs.lemmas.List.FromFn.{length-map-range_with_len}
 use Rattle.std.proofs.lemmas.List.{append-nil, length-append, length-map, take-map, get_or-map, take_all}
 use Rattle.element.specs.Cells.{put, cells, joined, rows_of}
 use Rattle.element.proofs.Lines.{joined_more, row_of}
-use Rattle.element.proofs.Writes.{put_put, put_one, put_more, length_put, length_cells, get_d_cells}
+use Rattle.element.proofs.Writes.{put_put, put_one, put_more, length_cells, get_d_cells}
 use Rattle.print.specs.Texts.{spaced, bracketed, gap, vector_text}
 
 abbrev behind : List ℕ → List ℕ

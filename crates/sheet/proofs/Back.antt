@@ -9,7 +9,7 @@ use Rattle.std.specs.List.{flat_map}
 use Rattle.std.proofs.lemmas.List.{drop_at, take_at}
 use Rattle.std.proofs.lemmas.Int.{to_z-of_z}
 use Rattle.sheet.specs.Bytes.{le2, le4, two, four}
-use Rattle.sheet.specs.Files.{file_of, last_of, tail_of, trailer_for}
+use Rattle.sheet.specs.Files.{file_of, last_of, trailer_for}
 use Rattle.sheet.specs.Rows.{row_bytes}
 use Rattle.sheet.specs.Trailers.{trailer_bytes, trailer_of}
 use Rattle.sheet.specs.declared.head.HeadNumbers.{HeadNumbers}

@@ -1,5 +1,5 @@
 -- Blanks, the word and the rest are all that waits, and what is left is the end of it.
-use Rattle.std.proofs.Common.{◌≡◌, ℕ, ◌+◌, ◌-◌, ◌<◌, ◌≤◌, Bool, true, false, cond, List, [], ◌∷◌, ◌++◌, length, drop, sym, refl, ap, ◌∙◌, append_assoc, arith, length-append}
+use Rattle.std.proofs.Common.{◌≡◌, ℕ, ◌<◌, Bool, true, false, cond, List, [], ◌∷◌, ◌++◌, length, drop, sym, refl, ap, ◌∙◌, append_assoc, arith, length-append}
 use Rattle.source.specs.Taking.{gone}
 use Rattle.source.specs.Words.{blank, blanks, after_blanks, run, after_run, word, rest}
 

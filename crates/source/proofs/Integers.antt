@@ -1,9 +1,8 @@
 -- Byte by byte, a word comes to the integer that it writes.
-use Rattle.std.proofs.Common.{◌≡◌, ℕ, ◌+◌, ◌-◌, ◌*◌, ◌≤◌, min, Bool, true, false, cond, ◌&&◌, eqb, ltb, List, [], ◌∷◌, ℤ, pos, neg_ℤ, Some, None, fold, Option, sym, refl, ap, ◌∙◌, inl, inr, arith}
+use Rattle.std.proofs.Common.{◌≡◌, ℕ, ◌+◌, ◌-◌, ◌*◌, ◌≤◌, min, Bool, true, false, cond, ◌&&◌, eqb, ltb, List, [], ◌∷◌, pos, neg_ℤ, Some, None, fold, sym, refl, ap, ◌∙◌, inl, inr, arith}
 use Rattle.std.specs.Char.{is_ascii_digit}
 use Rattle.std.specs.Str.{all_ascii_digits}
 use Rattle.std.proofs.lemmas.Bool.{cases_lt, cond-false, le-ltb}
-use Rattle.source.specs.declared.numeral.Numeral.{Numeral}
 use Rattle.source.specs.declared.numeral.Numeral.TheVariants.{Empty, Signed, Digits, Broken}
 use Rattle.source.specs.declared.numeral.Sign.{Sign}
 use Rattle.source.specs.declared.numeral.Sign.TheVariants.{Plus, Minus}

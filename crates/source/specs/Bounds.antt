@@ -1,9 +1,9 @@
 -- No recorder has more bytes waiting than a source may have.
-use Rattle.std.specs.Prelude.{ℕ, zero, suc, ◌+◌, ◌*◌, ◌/◌, ◌%◌, ◌≤◌, Bool, false, List, [], ◌∷◌, ◌++◌, length, take, drop, ℤ, pos, negsuc, ◌==◌}
+use Rattle.std.specs.Prelude.{ℕ, zero, suc, ◌+◌, ◌*◌, ◌/◌, ◌%◌, ◌≤◌, Bool, false, List, [], ◌∷◌, length, take, drop, ℤ, pos, negsuc, ◌==◌}
 use Rattle.std.proofs.Common.{arith, length-append, length-drop, length-take}
 use Rattle.std.specs.Fmt.{digits_onto, digits, digit_glyph, signed_decimal}
 use Rattle.std.proofs.lemmas.Bool.{cond_both}
-use Rattle.source.specs.Lines.{line_of, lines_of}
+use Rattle.source.specs.Lines.{lines_of}
 use Rattle.source.specs.Records.{going, recorded}
 use Rattle.source.specs.declared.recorder.Recorder.{Recorder}
 

@@ -1,5 +1,5 @@
 -- The integer that a word writes: a sign or none, then one digit or more, of a number that 32 bits hold.
-use Rattle.std.specs.Prelude.{ℕ, ◌+◌, ◌-◌, ◌*◌, Bool, cond, List, [], ◌∷◌, ℤ, pos, neg_ℤ, Some, None, Option, ◌==◌, nat_lt}
+use Rattle.std.specs.Prelude.{ℕ, ◌+◌, ◌-◌, ◌*◌, cond, List, [], ◌∷◌, ℤ, pos, neg_ℤ, Some, None, Option, ◌==◌, nat_lt}
 use Rattle.std.specs.Str.{all_ascii_digits}
 use Rattle.source.specs.declared.numeral.Sign.{Sign}
 use Rattle.source.specs.declared.numeral.Sign.TheVariants.{Plus, Minus}

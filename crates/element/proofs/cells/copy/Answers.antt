@@ -1,6 +1,5 @@
-use Rattle.std.proofs.Common.{◌≡◌, ◌+◌, length, arith, rules}
+use Rattle.std.proofs.Common.{rules}
 use Rattle.std.proofs.lemmas.List.Edits.{paste_none}
-use Rattle.element.specs.Cells.{cells}
 use Rattle.element.proofs.Writes.{copy_more, length_cells, get_d_cells}
 use Rattle.element.proofs.cells.copy.Goals as goal
 

@@ -1,5 +1,4 @@
 use Rattle.std.proofs.Common.{rules}
-use Rattle.std.proofs.lemmas.List.{length-replicate}
 use Rattle.element.proofs.Writes.{put_put, length_cells, padded_parts}
 use Rattle.element.proofs.cells.resize.Goals as goal
 

@@ -1,4 +1,4 @@
-use Rattle.std.proofs.Common.{◌≡◌, take, replicate}
+use Rattle.std.proofs.Common.{◌≡◌, take}
 use Rattle.element.specs.Cells.{cells}
 use Rattle.element.proofs.equality.equal.Given as goal
 

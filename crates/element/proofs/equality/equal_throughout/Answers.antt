@@ -1,6 +1,6 @@
 use Rattle.std.proofs.Common.{arith, rules}
 use Rattle.std.proofs.lemmas.List.{length-replicate, get_or-replicate}
-use Rattle.element.proofs.Comparing.{same_none, same_more, same_not, same_all}
+use Rattle.element.proofs.Comparing.{same_more, same_not, same_all}
 use Rattle.element.proofs.Writes.{length_cells, get_d_cells}
 use Rattle.element.proofs.equality.equal_throughout.Goals as goal
 

@@ -1,4 +1,4 @@
-use Rattle.std.proofs.Common.{le_refl, arith, rules}
+use Rattle.std.proofs.Common.{le_refl, rules}
 use Rattle.std.proofs.lemmas.List.Edits.{paste_none}
 use Rattle.element.proofs.Lines.{row_below, resized_more, resized_all}
 use Rattle.element.proofs.matrices.resize_matrix.Goals as goal

@@ -1,4 +1,4 @@
-use Rattle.std.proofs.Common.{sym, ap, ◌∙◌, le_refl, arith, rules}
+use Rattle.std.proofs.Common.{sym, ap, ◌∙◌, le_refl, rules}
 use Rattle.element.specs.Cells.{put, padded}
 use Rattle.element.proofs.Lines.{row_below, row_of, row_past, padded_none}
 use Rattle.element.proofs.matrices.resize_row.Goals as goal

@@ -1,4 +1,4 @@
-use Rattle.std.proofs.Common.{◌≡◌, ℕ, ◌*◌, ◌<◌, ap, ◌∙◌, arith, to_z-of_z, rules}
+use Rattle.std.proofs.Common.{ℕ, ◌<◌, ap, ◌∙◌, arith, to_z-of_z, rules}
 use Rattle.std.proofs.lemmas.List.Edits.{paste_none}
 use Rattle.element.specs.Steps.{step_count}
 use Rattle.element.proofs.Stepping.{step_within}

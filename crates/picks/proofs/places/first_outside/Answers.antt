@@ -1,4 +1,4 @@
-use Rattle.std.proofs.Common.{arith, rules}
+use Rattle.std.proofs.Common.{rules}
 use Rattle.picks.proofs.Indexing.{length_indices, outside_more, outside_here, outside_all}
 use Rattle.picks.proofs.places.first_outside.Goals as goal
 

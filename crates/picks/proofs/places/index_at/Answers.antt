@@ -1,4 +1,4 @@
-use Rattle.std.proofs.Common.{◌∙◌, arith, rules}
+use Rattle.std.proofs.Common.{arith}
 use Rattle.std.proofs.lemmas.Int.{ints}
 use Rattle.picks.proofs.Indexing.{at_cells, at_interval}
 use Rattle.picks.proofs.places.index_at.Goals as goal

@@ -1,5 +1,5 @@
-use Rattle.std.proofs.Common.{◌≡◌, ℕ, ◌+◌, ◌≤◌, List, length, get_or, take, drop, ℤ, pos, sym, ap, ◌∙◌, subst, arith, rules}
-use Rattle.element.specs.Cells.{put, cells}
+use Rattle.std.proofs.Common.{ℕ, ◌+◌, List, get_or, take, drop, ℤ, pos, sym, ap, ◌∙◌, subst, arith, rules}
+use Rattle.element.specs.Cells.{cells}
 use Rattle.picks.specs.Indices.{indices_of, index_count, place_of, AllInside}
 use Rattle.picks.specs.Stores.{stored, values_of}
 use Rattle.picks.proofs.Indexing.{length_indices, still_above, still_within}

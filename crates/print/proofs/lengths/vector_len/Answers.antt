@@ -1,4 +1,4 @@
-use Rattle.std.proofs.Common.{map, length, ap, arith, rules}
+use Rattle.std.proofs.Common.{map, length, ap, arith}
 use Rattle.std.proofs.lemmas.List.{take_all}
 use Rattle.element.specs.Cells.{cells}
 use Rattle.print.specs.Texts.{spaced}

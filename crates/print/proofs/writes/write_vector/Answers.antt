@@ -1,8 +1,7 @@
-use Rattle.std.proofs.Common.{◌+◌, ◌*◌, [], map, length, set, ap, arith, rules}
+use Rattle.std.proofs.Common.{◌+◌, [], map, length, set, ap, arith, rules}
 use Rattle.std.proofs.lemmas.List.Edits.{paste_none}
-use Rattle.element.specs.Cells.{cells, rows_of}
-use Rattle.print.specs.Texts.{vector_text}
-use Rattle.print.proofs.Spaces.{text_at, length_texts, row_text, length_rows, text_more, end_more, text_fits, bracket_all, bracket_end}
+use Rattle.element.specs.Cells.{cells}
+use Rattle.print.proofs.Spaces.{text_at, length_texts, text_more, end_more, text_fits, bracket_all, bracket_end}
 use Rattle.print.proofs.writes.write_vector.Goals as goal
 
 pub loop-k-init : goal.loop-k-init

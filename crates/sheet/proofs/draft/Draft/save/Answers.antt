@@ -1,4 +1,4 @@
-use Rattle.std.proofs.Common.{◌≡◌, length, vec_items, sym, refl, ap, ◌∙◌, arith, rules}
+use Rattle.std.proofs.Common.{◌≡◌, length, vec_items, refl, ◌∙◌, arith, rules}
 use Rattle.sheet.specs.Heads.{numbers_of}
 use Rattle.sheet.specs.Trailers.{trailer_bytes}
 use Rattle.sheet.proofs.Saved.{saved, saved_length}
