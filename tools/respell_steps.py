@@ -11,10 +11,23 @@ WORDS = """in_ok in_err in_default slice_bounds slice_known offset_bounds range_
 overflow_cast overflow_step overflow_neg nonzero_div nonzero_rem as_slice as_mut_slice type_inv invariant_of copy_from_slice push_reserved from_residual as_str is_none is_some from_output""".split()
 TOKEN = re.compile(r"[A-Za-z_][\w'+-]*")
 IDENT = re.compile(r"[A-Za-z_]\w*")
+CLAUSE = re.compile(r"^\s*(?:requires|ensures) (\w+) \{", re.M)
+
+
+def clauses():
+    """The names of all clauses: a record of what a call requires has a field for each."""
+    names = set()
+    for folder, dirs, files in os.walk("crates"):
+        dirs[:] = [d for d in dirs if d != "out"]
+        for name in files:
+            if name.endswith(".rt"):
+                with open(os.path.join(folder, name), encoding="utf-8") as f:
+                    names |= {n for n in CLAUSE.findall(f.read()) if "_" in n}
+    return names
 
 
 def known(crate):
-    names = set(WORDS)
+    names = set(WORDS) | clauses()
     for folder, _, files in os.walk(os.path.join("crates", crate, "src")):
         for name in files:
             with open(os.path.join(folder, name), encoding="utf-8") as f:

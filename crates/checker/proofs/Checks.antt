@@ -1,17 +1,14 @@
 -- The loop over the rows.
-use Rattle.std.proofs.Common.{◌≡◌, ℕ, zero, suc, ◌+◌, ◌<◌, ◌≤◌, Bool, true, false, cond, eqb, ◌⊎◌, List, [], ◌∷◌, ◌++◌, length, get_or, take, Ok, Err, Option, Result, sym, refl, ap, ◌∙◌, subst, ⊎_elim, add-one, arith}
+use Rattle.std.proofs.Common.{◌≡◌, ℕ, zero, suc, ◌+◌, ◌<◌, ◌≤◌, cond, eqb, List, [], ◌∷◌, ◌++◌, length, get_or, take, Ok, Err, sym, refl, ap, ◌∙◌, subst, ⊎_elim, add-one, arith}
 use Rattle.std.proofs.lemmas.List.{get_or_append_left, get_or_push, length_push, take-append-le, take_all}
 use Rattle.std.proofs.lemmas.Bool.{cases_lt}
 use Rattle.sheet.specs.declared.row.Row.{Row}
 use Rattle.types.specs.declared.typing.Typing.{Typing}
 use Rattle.rules.specs.declared.refusal.Refusal.{Refusal}
 use Rattle.checker.specs.declared.line.Line.{Line}
-use Rattle.checker.specs.declared.opened.Blocks.{Blocks}
-use Rattle.instruction.specs.declared.instructions.Instruction.{Instruction}
 use Rattle.instruction.specs.Forms.{form}
 use Rattle.checker.specs.Blocks.{past_end, at, makes, after, blocks, near}
 use Rattle.checker.specs.Judge.{judged_as, judge, no_row, between, LawfulTo, Accepted, Faulty}
-use Rattle.checker.specs.Stack.{open_rows}
 use Rattle.checker.proofs.Near.{fresh, near_is}
 
 -- blocks and fresh rows before p depend on the rows before p alone

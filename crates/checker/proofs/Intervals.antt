@@ -1,7 +1,7 @@
 -- In a lawful sheet a block is the rows from the one after its opener to the one that closes it.
-use Rattle.std.proofs.Common.{◌≡◌, ℕ, zero, suc, ◌+◌, ◌-◌, ◌<◌, ◌≤◌, Bool, true, false, cond, not, ◌&&◌, ◌||◌, eqb, ltb, ◌⊎◌, List, [], ◌∷◌, length, get_or, take, Some, None, Option, sym, refl, ap, ◌∙◌, subst, inl, inr, ⊎_elim, add-one, arith}
+use Rattle.std.proofs.Common.{◌≡◌, ℕ, zero, suc, ◌+◌, ◌-◌, ◌<◌, ◌≤◌, Bool, true, false, cond, not, ◌&&◌, eqb, ltb, ◌⊎◌, List, [], ◌∷◌, length, get_or, take, Some, None, Option, sym, refl, ap, ◌∙◌, subst, inl, inr, ⊎_elim, arith}
 use Rattle.std.proofs.lemmas.List.{get_or-take}
-use Rattle.std.proofs.lemmas.Bool.{and_parts, or_cases, or_left, or_right, eqb-true, eq-eqb, ne_eqb, ltb-true, cases_lt, cases_eq}
+use Rattle.std.proofs.lemmas.Bool.{and_parts, or_cases, or_left, or_right, eqb-true, eq-eqb, ltb-true, cases_lt}
 use Rattle.sheet.specs.declared.row.Row.{Row}
 use Rattle.types.specs.declared.typing.Typing.{Typing}
 use Rattle.checker.specs.declared.line.Line.{Line}
@@ -10,7 +10,7 @@ use Rattle.instruction.specs.declared.instructions.Control.TheVariants as contro
 use Rattle.instruction.specs.declared.instructions.Instruction.{Instruction}
 use Rattle.instruction.specs.declared.instructions.Instruction.TheVariants.{Expression, Change, Control}
 use Rattle.instruction.specs.Forms.{form}
-use Rattle.checker.specs.Blocks.{past_end, at, near, outer, turned, after, blocks, innermost, member, closer, turn_opens, opener, turn_shuts, shuts, branches, closes_if, closes_block, turn_nests, returns, nests, declares, still_in, in_scope, ranges, in_each, loops, loop_among}
+use Rattle.checker.specs.Blocks.{past_end, at, near, outer, turned, after, blocks, innermost, member, closer, turn_opens, opener, shuts, branches, turn_nests, returns, nests, declares, still_in, in_scope, ranges, in_each, loops, loop_among}
 use Rattle.checker.specs.Judge.{no_row, Accepted}
 use Rattle.checker.proofs.Passes.{Passed, passes}
 use Rattle.checker.proofs.Checks.{blocks_same}

@@ -1,5 +1,5 @@
 -- What a row that check passes is known to keep.
-use Rattle.std.proofs.Common.{◌≡◌, ℕ, ◌+◌, ◌<◌, Bool, true, false, not, ◌&&◌, ◌||◌, ltb, List, length, Some, None, Ok, Err, Option, Result, sym, refl, ap, ◌∙◌, subst, arith}
+use Rattle.std.proofs.Common.{◌≡◌, ℕ, Bool, true, false, not, List, Some, None, Ok, Err, Option, Result, refl, subst, arith}
 use Rattle.std.proofs.lemmas.Bool.{and_parts}
 use Rattle.types.specs.declared.typing.Typing.{Typing}
 use Rattle.rules.specs.declared.refusal.Refusal.{Refusal}
@@ -10,7 +10,7 @@ use Rattle.instruction.specs.declared.instructions.Control.TheVariants as contro
 use Rattle.instruction.specs.declared.instructions.Instruction.{Instruction}
 use Rattle.instruction.specs.declared.instructions.Instruction.TheVariants.{Expression, Change, Control}
 use Rattle.rules.specs.Rules.{Judged, unless, typed}
-use Rattle.checker.specs.Blocks.{at, typing_at, operands, all, innermost, turn_nests, nests, scoped, target_of}
+use Rattle.checker.specs.Blocks.{typing_at, operands, all, innermost, turn_nests, nests, scoped, target_of}
 use Rattle.checker.specs.Judge.{lined, ruled, judged_as}
 use Rattle.checker.specs.Stack.{turn_fits, fits}
 

@@ -1,9 +1,8 @@
 -- A stack in the front of an array.
-use Rattle.std.proofs.Common.{◌≡◌, ℕ, ◌+◌, ◌-◌, ◌<◌, ◌≤◌, Bool, true, false, ◌||◌, eqb, List, [], ◌∷◌, reverse, length, get_or, take, set, sym, refl, ap, ◌∙◌, subst, arith}
+use Rattle.std.proofs.Common.{◌≡◌, ℕ, ◌+◌, ◌-◌, ◌<◌, ◌≤◌, List, [], ◌∷◌, reverse, length, get_or, take, set, ap, ◌∙◌, arith}
 use Rattle.std.proofs.lemmas.List.{length-take-le, length-reverse, take_more, take_more_set, reverse-append}
-use Rattle.std.proofs.lemmas.Bool.{eq-eqb, ne_eqb}
 use Rattle.checker.specs.declared.opened.Blocks.{Blocks}
-use Rattle.checker.specs.Blocks.{member, outer}
+use Rattle.checker.specs.Blocks.{outer}
 use Rattle.checker.specs.Stack.{open_rows}
 
 abbrev pub held : ℕ → List ℕ → List ℕ

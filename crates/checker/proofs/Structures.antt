@@ -1,5 +1,5 @@
 -- What check shows of a whole sheet.
-use Rattle.std.proofs.Common.{◌≡◌, ℕ, zero, suc, ◌+◌, ◌<◌, ◌≤◌, Bool, true, false, not, ◌&&◌, ◌||◌, eqb, ltb, ◌⊎◌, List, [], ◌∷◌, length, get_or, take, is_some, Some, None, Ok, Option, sym, refl, ap, ◌∙◌, subst, inl, inr, ⊎_elim, arith}
+use Rattle.std.proofs.Common.{◌≡◌, ℕ, zero, suc, ◌+◌, ◌<◌, Bool, true, false, not, ◌&&◌, ◌||◌, eqb, ltb, ◌⊎◌, List, [], ◌∷◌, length, get_or, take, is_some, Some, None, Ok, Option, sym, refl, ap, ◌∙◌, subst, inl, inr, ⊎_elim, arith}
 use Rattle.std.proofs.lemmas.Bool.{and_parts, and_from, or_cases, lt-ltb, ltb-true, eqb-true, eq-eqb, or_left}
 use Rattle.sheet.specs.declared.row.Row.{Row}
 use Rattle.types.specs.declared.typing.Typing.{Typing}
@@ -12,10 +12,10 @@ use Rattle.instruction.specs.declared.instructions.Control.TheVariants as contro
 use Rattle.instruction.specs.declared.instructions.Instruction.{Instruction}
 use Rattle.instruction.specs.declared.instructions.Instruction.TheVariants.{Expression, Change, Control}
 use Rattle.rules.specs.Rules.{typed}
-use Rattle.checker.specs.Blocks.{past_end, at, typing_of, typing_at, makes, operands, all, below, near, blocks, member, opener, closer, closes_block, nests, loop_among, row_of, declares, still_in, in_scope, in_each, ranges, make_scoped, change_scoped, scoped, target_of, returns, turn_nests, finishes}
+use Rattle.checker.specs.Blocks.{at, typing_of, typing_at, makes, operands, all, below, near, blocks, member, opener, closer, closes_block, nests, loop_among, row_of, declares, still_in, in_scope, in_each, ranges, make_scoped, change_scoped, scoped, target_of, returns, finishes}
 use Rattle.instruction.specs.Forms.{form}
 use Rattle.checker.specs.Judge.{no_row, Accepted}
-use Rattle.checker.specs.Structure.{says, partner, Holds, Visible, Ranging, Looping, Structured}
+use Rattle.checker.specs.Structure.{says, partner, Visible, Ranging, Looping, Structured}
 use Rattle.checker.proofs.Near.{near_tells}
 use Rattle.checker.proofs.Passes.{Passed}
 use Rattle.checker.proofs.Typings.{make_names, change_names, names, typed_same}

@@ -1,10 +1,9 @@
 -- The typing of a row follows from the typings of the rows before it.
-use Rattle.std.proofs.Common.{◌≡◌, ℕ, zero, suc, ◌+◌, ◌<◌, ◌≤◌, Bool, true, false, ◌&&◌, ◌||◌, ltb, ◌⊎◌, List, [], ◌∷◌, sym, refl, ap, ◌∙◌, subst, ⊎_elim, arith}
-use Rattle.std.proofs.lemmas.Bool.{and_parts, or_cases, ltb-true}
+use Rattle.std.proofs.Common.{◌≡◌, ℕ, Bool, true, List, [], ◌∷◌, refl}
+use Rattle.std.proofs.lemmas.Bool.{and_parts}
 use Rattle.types.specs.declared.typing.Typing.{Typing}
 use Rattle.rules.specs.declared.refusal.Refusal.TheVariants.{Unfit}
 use Rattle.types.specs.declared.kinds.Shape.TheVariants.{Scalar}
-use Rattle.checker.specs.declared.line.Line.{Line}
 use Rattle.instruction.specs.declared.instructions.Start.{Start}
 use Rattle.instruction.specs.declared.instructions.Start.TheVariants.{Nulls, Value}
 use Rattle.instruction.specs.declared.instructions.Expression.{Expression as Make}

@@ -1,5 +1,5 @@
 -- Lawful rows have one list of lines, and a sheet is not both lawful and faulty.
-use Rattle.std.proofs.Common.{◌≡◌, ℕ, zero, suc, ◌+◌, ◌<◌, ◌≤◌, true, List, length, get_or, take, is_ok, Ok, Err, Result, sym, refl, ap, ◌∙◌, subst, add-one, arith}
+use Rattle.std.proofs.Common.{◌≡◌, ℕ, zero, suc, ◌≤◌, true, List, length, get_or, take, is_ok, Ok, Err, Result, sym, refl, ap, ◌∙◌, subst, add-one, arith}
 use Rattle.std.proofs.lemmas.List.{take_all, take_more_same}
 use Rattle.sheet.specs.declared.row.Row.{Row}
 use Rattle.types.specs.declared.typing.Typing.{Typing}

@@ -1,5 +1,5 @@
 -- What check shows of a whole sheet, by intervals of rows.
-use Rattle.std.specs.Prelude.{◌≡◌, ℕ, ◌+◌, ◌<◌, ◌≤◌, Bool, true, ◌⊎◌, List, length, Ok, Option}
+use Rattle.std.specs.Prelude.{◌≡◌, ℕ, ◌+◌, ◌<◌, ◌≤◌, true, ◌⊎◌, List, length, Ok}
 use Rattle.types.specs.declared.typing.Typing.{Typing}
 use Rattle.checker.specs.declared.line.Line.{Line}
 use Rattle.instruction.specs.declared.instructions.Instruction.{Instruction}

@@ -1,19 +1,17 @@
 -- A loop that goes along a list of results up to the first fault.
-use Rattle.std.proofs.Common.{◌≡◌, ℕ, zero, suc, ◌+◌, ◌-◌, ◌<◌, ◌≤◌, Bool, true, false, cond, List, [], ◌∷◌, ◌++◌, map, length, get_or, take, drop, set, replicate, ℤ, pos, is_ok, Ok, Err, Result, sym, refl, ap, ◌∙◌, subst, suc-le-suc, zero-le, arith, below_more}
+use Rattle.std.proofs.Common.{◌≡◌, ℕ, zero, suc, ◌+◌, ◌-◌, ◌<◌, ◌≤◌, true, List, [], ◌∷◌, map, length, get_or, take, drop, set, is_ok, Ok, Err, Result, sym, refl, ap, ◌∙◌, subst, arith, below_more}
 use lib.Seq.{paste}
 use Rattle.std.specs.Result.{result_unwrap_or}
-use Rattle.std.proofs.lemmas.List.{get_or-map, length-map, length-replicate, get_or-replicate, get_or_default, same_lists, get_or-take}
-use Rattle.std.proofs.lemmas.Bool.{false≢true, cond_both}
+use Rattle.std.proofs.lemmas.List.{get_or-map, length-map}
+use Rattle.std.proofs.lemmas.Bool.{false≢true}
 use Rattle.arithmetic.specs.declared.faults.ArithmeticFault.{ArithmeticFault}
-use Rattle.elementwise.specs.declared.operands.Operand.{Operand}
 use Rattle.arithmetic.specs.Faults.{at_element}
-use Rattle.element.specs.Cells.{cells, tabulate}
-use Rattle.elementwise.specs.Operands.{place_of, end_of, along}
-use Rattle.elementwise.specs.Results.{map2, before, collected, Wrote}
+use Rattle.element.specs.Cells.{tabulate}
+use Rattle.elementwise.specs.Results.{before, collected, Wrote}
 use Rattle.std.proofs.lemmas.List.Edits.{paste_none}
-use Rattle.std.proofs.lemmas.List.FromFn.{get_or-map-range_with_len, length-map-range_with_len}
+use Rattle.std.proofs.lemmas.List.FromFn.{get_or-map-range_with_len}
 use Rattle.arithmetic.specs.declared.faults.ElementFault.{ElementFault}
-use Rattle.element.proofs.Writes.{length_cells, get_d_cells, read_below, write_more, take_below, drop_beyond}
+use Rattle.element.proofs.Writes.{read_below, write_more, take_below, drop_beyond}
 
 -- the values of rs, with d for a fault
 abbrev pub values : {X F : Type 0} → X → List (Result X F) → List X

@@ -10,7 +10,7 @@ use Rattle.element.specs.Cells.{put, tabulate}
 use Rattle.elementwise.specs.declared.operands.Operand.{Operand}
 use Rattle.elementwise.specs.Operands.{place_of, end_of, along}
 use Rattle.elementwise.specs.Results.{map2, before, collected, Wrote}
-use Rattle.elementwise.specs.Sure.{Within, value_at, Reads}
+use Rattle.elementwise.specs.Sure.{Within, Reads}
 use Rattle.elementwise.proofs.Along.{place_below, along_two}
 use Rattle.elementwise.proofs.Collects.{wrote_as}
 

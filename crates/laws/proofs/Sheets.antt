@@ -26,7 +26,7 @@ use Rattle.instruction.specs.Operators.{prefix_of, infix_of, measure_of}
 use Rattle.checker.specs.declared.line.Line.{Line}
 use Rattle.checker.specs.Blocks.{at, past_end, operands, all, near, below, makes, blocks}
 use Rattle.checker.specs.Judge.{Accepted, no_row}
-use Rattle.checker.specs.Structure.{says, Structured}
+use Rattle.checker.specs.Structure.{Structured}
 use Rattle.checker.proofs.Passes.{passes}
 use Rattle.checker.proofs.Structures.{structured}
 use Rattle.laws.specs.Reads.{reads, resume_reads, reopen_reads, AllUnder}

@@ -1,5 +1,5 @@
 -- Where the cells of rows lie, and what lawful layouts say of sizes.
-use Rattle.std.proofs.Common.{◌≡◌, ℕ, suc, ◌+◌, ◌*◌, ◌<◌, ◌≤◌, Bool, true, false, cond, ◌&&◌, eqb, leb, List, [], ◌∷◌, sym, refl, ap, ◌∙◌, subst, mul-le-mul_right, suc-mul, arith}
+use Rattle.std.proofs.Common.{◌≡◌, ℕ, suc, ◌+◌, ◌*◌, ◌<◌, ◌≤◌, true, ◌&&◌, eqb, leb, refl, mul-le-mul_right, suc-mul, arith}
 use Rattle.std.proofs.lemmas.Bool.{and_parts, leb-true, eqb-true}
 use Rattle.types.specs.declared.kinds.Kind.{Kind}
 use Rattle.types.specs.declared.kinds.Kind.TheVariants.{Boolean, Character, Integer}
@@ -9,7 +9,7 @@ use Rattle.types.specs.Types.{same_kind, same_shape}
 use Rattle.element.specs.Cells.{cells}
 use Rattle.meaning.specs.declared.layouts.Layout.{Layout}
 use Rattle.meaning.specs.declared.places.Place.{Place}
-use Rattle.meaning.specs.Values.{Cell, area, fixed, within, lawful, elements_as, layout_of}
+use Rattle.meaning.specs.Values.{area, fixed, within, lawful, elements_as, layout_of}
 use Rattle.meaning.specs.States.{Tables, table_of}
 use Rattle.meaning.specs.Works.{Operand}
 use Rattle.meaning.proofs.Shells.{never}

@@ -1,17 +1,15 @@
 -- What the code of any row owes: its operands, the tests of its plan, its elements.
-use Rattle.std.proofs.Common.{◌≡◌, ℕ, ◌+◌, ◌-◌, ◌*◌, ◌<◌, ◌≤◌, Bool, true, false, cond, List, [], ◌∷◌, length, take, drop, IsErrAnd, Some, None, Ok, Err, Option, Result, sym, refl, ap, ◌∙◌, subst, arith, drop-drop}
+use Rattle.std.proofs.Common.{◌≡◌, ℕ, ◌+◌, ◌-◌, ◌*◌, ◌≤◌, Bool, true, false, List, length, take, drop, IsErrAnd, Some, None, Ok, Err, Option, Result, sym, refl, ap, ◌∙◌, subst, arith, drop-drop}
 use Rattle.std.proofs.lemmas.Result.{err_from_is_err_and}
-use Rattle.types.specs.declared.kinds.Kind.{Kind}
 use Rattle.arithmetic.specs.declared.faults.ElementFault.{ElementFault}
-use Rattle.fault.specs.declared.causes.Cause.{Cause}
 use Rattle.fault.specs.declared.causes.Cause.TheVariants.{Arithmetic, Index, SizesDiffer, Beyond, Disordered, NoRule}
 use Rattle.fault.specs.declared.faults.Fault.{Fault}
 use Rattle.meaning.specs.declared.layouts.Layout.{Layout}
 use Rattle.meaning.specs.declared.slips.Slip.{Slip}
 use Rattle.meaning.specs.declared.places.Place.{Place}
 use Rattle.meaning.specs.Values.{Cell, Value, value_of}
-use Rattle.meaning.specs.Plans.{Plan, Outcome, gives, faults, outcome, unless, unless_outside, finished, fits, with}
-use Rattle.meaning.specs.States.{Tables, table_of, layout_at, valued, value_from, value_in, placed_in, Elsewhere, FreeAt}
+use Rattle.meaning.specs.Plans.{Plan, Outcome, outcome, unless, unless_outside, finished, fits, with}
+use Rattle.meaning.specs.States.{Tables, layout_at, valued, value_from, value_in, placed_in, Elsewhere, FreeAt}
 use Rattle.meaning.specs.Expressions.{by1, by2, by3}
 use Rattle.meaning.specs.Works.{refuse, fault_at, guards, guarded, found, Left, Made}
 

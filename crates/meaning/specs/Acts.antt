@@ -1,5 +1,5 @@
 -- What each row of a sheet does: where it goes on, or its fault, and what it leaves.
-use Rattle.std.specs.Prelude.{◌≡◌, ℕ, ◌+◌, Bool, true, false, cond, ◌&&◌, ◌||◌, List, [], ◌∷◌, length, ℤ, pos, ◌+ℤ◌, Some, None, Ok, Err, Option, Result, nat_le, nat_lt, slice_index_or, slice_set}
+use Rattle.std.specs.Prelude.{◌≡◌, ℕ, ◌+◌, false, cond, ◌&&◌, ◌||◌, List, [], ◌∷◌, length, pos, ◌+ℤ◌, Some, None, Ok, Err, Option, Result, nat_le, nat_lt, slice_index_or, slice_set}
 use Rattle.types.specs.declared.kinds.Kind.{Kind}
 use Rattle.types.specs.declared.kinds.Kind.TheVariants.{Boolean, Character, Integer}
 use Rattle.types.specs.declared.kinds.Shape.TheVariants.{Scalar, Vector, Interval}
@@ -13,7 +13,6 @@ use Rattle.fault.specs.declared.causes.Cause.TheVariants.{SizesDiffer, Disordere
 use Rattle.fault.specs.declared.faults.Fault.{Fault}
 use Rattle.instruction.specs.declared.instructions.Start.{Start}
 use Rattle.instruction.specs.declared.instructions.Start.TheVariants.{Nulls, Value as Given}
-use Rattle.instruction.specs.declared.instructions.Expression.{Expression as Make}
 use Rattle.instruction.specs.declared.instructions.Change.{Change as Changes}
 use Rattle.instruction.specs.declared.instructions.Change.TheVariants as change
 use Rattle.instruction.specs.declared.instructions.Control.{Control as Turn}
@@ -24,7 +23,7 @@ use Rattle.checker.specs.declared.line.Line.{Line}
 use Rattle.checker.specs.Blocks.{at}
 use Rattle.meaning.specs.declared.after.After.{After}
 use Rattle.meaning.specs.declared.after.After.TheVariants.{Row, Return, Wait}
-use Rattle.meaning.specs.Values.{Cell, null_of, scalar_of, Value, value_of, exactly, elements_of, first, truth}
+use Rattle.meaning.specs.Values.{Cell, scalar_of, Value, value_of, exactly, elements_of, first, truth}
 use Rattle.meaning.specs.Plans.{Outcome, gives, faults, outcome, with}
 use Rattle.meaning.specs.Expressions.{in_order, count, by1, by2, by3, evaluated}
 use Rattle.meaning.specs.Changes.{nulls, declared, assigned, stored_at, stored_at_two}

@@ -1,10 +1,8 @@
 -- What rows that declare, assign and store give to a variable.
-use Rattle.std.specs.Prelude.{ℕ, ◌+◌, ◌*◌, Bool, true, false, cond, not, ◌&&◌, ◌||◌, List, [], ◌∷◌, replicate, Some, None, Ok, Option, ◌==◌, slice_index_or, slice_set}
-use Rattle.types.specs.declared.kinds.Kind.{Kind}
+use Rattle.std.specs.Prelude.{ℕ, ◌+◌, ◌*◌, Bool, true, cond, not, ◌&&◌, ◌||◌, List, [], ◌∷◌, replicate, Some, None, Ok, Option, ◌==◌, slice_index_or, slice_set}
 use Rattle.types.specs.declared.kinds.Kind.TheVariants.{Integer}
-use Rattle.types.specs.declared.kinds.Shape.TheVariants.{Scalar, Vector, Matrix, Interval}
-use Rattle.types.specs.declared.kinds.Size.{Size}
-use Rattle.types.specs.declared.kinds.Size.TheVariants.{Open, Known}
+use Rattle.types.specs.declared.kinds.Shape.TheVariants.{Scalar, Vector, Matrix}
+use Rattle.types.specs.declared.kinds.Size.TheVariants.{Known}
 use Rattle.types.specs.declared.typing.Typing.{Typing}
 use Rattle.types.specs.Types.{same_shape, is_known, fits_in}
 use Rattle.types.specs.Typings.{is, of, alone, index, matches}

@@ -8,7 +8,7 @@ use Rattle.fault.specs.declared.causes.Cause.TheVariants.{Arithmetic}
 use Rattle.fault.specs.Faults.{cause_number}
 use Rattle.instruction.specs.declared.instructions.Infix.TheVariants as family
 use Rattle.meaning.specs.Values.{Value, value_of, layout_of, scalar_of, vector_of}
-use Rattle.meaning.specs.Plans.{Outcome, gives, faults, outcome}
+use Rattle.meaning.specs.Plans.{gives, faults, outcome}
 use Rattle.meaning.specs.Expressions.{infixed, pick, stack}
 
 abbrev pub integer : ℤ → Value

@@ -1,5 +1,5 @@
 -- What rows work on: slips and tables and the values that they hold, the source, the output; and what a row changes there.
-use Rattle.std.specs.Prelude.{◌≡◌, ℕ, ◌+◌, ◌*◌, Bool, true, false, cond, List, [], ◌∷◌, length, take, drop, ℤ, Some, None, Option, slice_index_or, slice_set}
+use Rattle.std.specs.Prelude.{◌≡◌, ℕ, ◌+◌, ◌*◌, Bool, cond, List, length, take, drop, ℤ, Some, None, Option, slice_index_or, slice_set}
 use Rattle.types.specs.declared.kinds.Kind.{Kind}
 use Rattle.types.specs.declared.kinds.Kind.TheVariants.{Boolean, Character, Integer}
 use Rattle.types.specs.declared.kinds.Shape.TheVariants.{Scalar}

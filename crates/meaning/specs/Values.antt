@@ -1,14 +1,13 @@
 -- Values: a layout, which is kind, shape and sizes, and elements. When a layout is lawful at a width.
-use Rattle.std.specs.Prelude.{ℕ, ◌*◌, Bool, true, false, cond, not, ◌&&◌, ◌||◌, List, [], ◌∷◌, ℤ, pos, slice_index_or}
+use Rattle.std.specs.Prelude.{ℕ, ◌*◌, Bool, false, ◌&&◌, List, [], ℤ, pos, slice_index_or}
 use Rattle.types.specs.declared.kinds.Kind.{Kind}
 use Rattle.types.specs.declared.kinds.Kind.TheVariants.{Boolean, Character, Integer}
 use Rattle.types.specs.declared.kinds.Shape.{Shape}
-use Rattle.types.specs.declared.kinds.Shape.TheVariants.{Scalar, Vector, Matrix, Interval}
-use Rattle.types.specs.declared.kinds.Size.{Size}
-use Rattle.types.specs.declared.kinds.Size.TheVariants.{Open, Known}
+use Rattle.types.specs.declared.kinds.Shape.TheVariants.{Scalar, Vector}
+use Rattle.types.specs.declared.kinds.Size.TheVariants.{Known}
 use Rattle.types.specs.declared.typing.Typing.{Typing}
 use Rattle.types.specs.Types.{room}
-use Rattle.types.specs.Typings.{typing, type_fits, lawful as lawful_typing}
+use Rattle.types.specs.Typings.{typing, type_fits}
 use Rattle.meaning.specs.declared.layouts.Layout.{Layout}
 
 -- ---- elements

@@ -1,5 +1,5 @@
 -- What the code of a row shows: its tests in their order, and what it leaves in the tables.
-use Rattle.std.specs.Prelude.{◌≡◌, ℕ, ◌+◌, ◌*◌, ◌<◌, ◌≤◌, Bool, true, false, cond, List, Some, None, Ok, Err, Option, Result}
+use Rattle.std.specs.Prelude.{◌≡◌, ℕ, ◌+◌, ◌*◌, ◌<◌, ◌≤◌, Bool, true, false, List, Some, None, Ok, Err, Option, Result}
 use Rattle.types.specs.declared.kinds.Kind.{Kind}
 use Rattle.fault.specs.declared.causes.Cause.{Cause}
 use Rattle.fault.specs.declared.causes.Cause.TheVariants.{SizesDiffer, Beyond, Disordered, NoRule}

@@ -3,7 +3,6 @@
 use Rattle.std.specs.Prelude.{ℕ, Bool, true, false, cond, not, ◌&&◌, ◌||◌, Some, None, Ok, Err, Option, Result}
 use Rattle.types.specs.declared.kinds.Kind.{Kind}
 use Rattle.types.specs.declared.kinds.Kind.TheVariants.{Boolean, Integer}
-use Rattle.types.specs.declared.kinds.Shape.{Shape}
 use Rattle.types.specs.declared.kinds.Shape.TheVariants.{Scalar, Vector, Matrix, Interval}
 use Rattle.types.specs.declared.kinds.Size.{Size}
 use Rattle.types.specs.declared.kinds.Size.TheVariants.{Open, Known}
@@ -26,7 +25,7 @@ use Rattle.instruction.specs.declared.instructions.Control.{Control as Turn}
 use Rattle.instruction.specs.declared.instructions.Control.TheVariants as control
 use Rattle.instruction.specs.declared.instructions.Instruction.{Instruction}
 use Rattle.instruction.specs.declared.instructions.Instruction.TheVariants.{Expression, Change, Control}
-use Rattle.types.specs.Types.{same_kind, same_shape, exactly, is_known, agree, fits_in, or_else, plus, larger, room}
+use Rattle.types.specs.Types.{same_shape, exactly, is_known, agree, fits_in, or_else, plus, larger, room}
 use Rattle.types.specs.Typings.{typing, scalar, vector, matrix, interval, is, of, flat, alone, index, pairs, span, matches, matches_spread, spread}
 
 -- the note of a row, nothing for most statements, or the rule that it breaks

@@ -1,11 +1,10 @@
-use Rattle.std.proofs.Common.{◌≡◌, ℕ, ◌+◌, ◌≤◌, Bool, true, eqb, List, length, Ok, Err, vec_items, vec_capacity, Result, sym, refl, ap, ◌∙◌, subst, arith}
+use Rattle.std.proofs.Common.{◌+◌, eqb, List, length, vec_items, sym, ap, ◌∙◌, arith}
 use Rattle.std.proofs.lemmas.List.{get_or_read}
 use Rattle.checker.specs.declared.line.Line.{Line}
-use Rattle.sheet.specs.declared.row.Row.{Row}
 use Rattle.instruction.specs.Forms.{form}
 use Rattle.checker.specs.Judge.{no_row, judged_as, between}
 use Rattle.checker.specs.Stack.{open_rows}
-use Rattle.checker.proofs.Checks.{Checking, checking_more, checking_fault}
+use Rattle.checker.proofs.Checks.{checking_more, checking_fault}
 use Rattle.checker.proofs.Passes.{passes, nests_fits}
 use Rattle.checker.proofs.checking.check_rows.Goals as goal
 

@@ -1,4 +1,4 @@
-use Rattle.std.proofs.Common.{◌≡◌, ℕ, ◌-◌, ◌≤◌, Bool, true, false, cond, List, [], ◌∷◌, get_or, Some, None, Option, sym, refl, ap, ◌∙◌, arith}
+use Rattle.std.proofs.Common.{◌≡◌, ◌-◌, Bool, true, false, cond, get_or, Some, sym, ap, ◌∙◌, arith}
 use Rattle.checker.specs.declared.line.Line.{Line}
 use Rattle.checker.specs.Blocks.{at, loops, loop_among}
 use Rattle.checker.proofs.Stacks.{held, held_top}

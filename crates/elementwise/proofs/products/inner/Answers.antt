@@ -1,4 +1,4 @@
-use Rattle.std.proofs.Common.{◌≡◌, ◌+◌, ◌*◌, get_or, pos, sym, refl, ap, ◌∙◌, arith, to_z-of_z, w32, SFits, rules}
+use Rattle.std.proofs.Common.{◌+◌, ◌*◌, get_or, pos, refl, ◌∙◌, to_z-of_z, w32, SFits, rules}
 use Rattle.std.proofs.lemmas.Result.{err_from_is_err_and}
 use Rattle.elementwise.proofs.Sums.{inner_all, inner_more, inner_faults}
 use Rattle.elementwise.proofs.products.inner.Goals as goal

@@ -1,4 +1,4 @@
-use Rattle.std.proofs.Common.{◌≡◌, drop, pos}
+use Rattle.std.proofs.Common.{◌≡◌, drop}
 use Rattle.element.specs.Cells.{cells}
 use Rattle.elementwise.specs.Products.{summed, dot, strided}
 use Rattle.elementwise.proofs.products.inner.Given as goal

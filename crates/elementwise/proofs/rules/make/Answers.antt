@@ -1,5 +1,5 @@
 use Rattle.std.proofs.Common.{take, sym, subst, arith, rules}
-use Rattle.std.proofs.lemmas.List.FromFn.{length-map-range_with_len, get_or-map-range_with_len}
+use Rattle.std.proofs.lemmas.List.FromFn.{length-map-range_with_len}
 use Rattle.std.proofs.lemmas.List.Edits.{paste_none}
 use Rattle.element.specs.Cells.{tabulate}
 use Rattle.element.proofs.Writes.{still_below, make_more}

@@ -47,10 +47,10 @@ pick_matrix-picked-requires c =
     let f = lawful_small p.width x c.in_ok-x.ensures.lawful in
     record {
       below = omega (arith, w, f.elements, c.start_of-from.ensures, c.start_of-to.ensures);
-      rows-below = read_below p.width t c.args.b y ly rows er _ (omega (arith, u, c.start_of-to.ensures));
-      columns-below = read_below p.width t c.args.c z lz columns ec _ (omega (arith, v, c.start_of-to.ensures));
+      rows_below = read_below p.width t c.args.b y ly rows er _ (omega (arith, u, c.start_of-to.ensures));
+      columns_below = read_below p.width t c.args.c z lz columns ec _ (omega (arith, v, c.start_of-to.ensures));
       rows_seen = read_below p.width t c.args.b y ly rows er _ (omega (arith, u, c.requires.ample.integers));
-      columns-seen = read_below p.width t c.args.c z lz columns ec _ (omega (arith, v, c.requires.ample.integers));
+      columns_seen = read_below p.width t c.args.c z lz columns ec _ (omega (arith, v, c.requires.ample.integers));
       few = (let r = n.rows in let s = n.columns in search rules);
       booleans = omega (arith, n.crossings, c.start_of-to.ensures, c.requires.ample.booleans);
       characters = omega (arith, n.crossings, c.start_of-to.ensures, c.requires.ample.characters);

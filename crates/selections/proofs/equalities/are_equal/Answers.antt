@@ -11,9 +11,9 @@ equal_throughout-requires c =
     let er = c.start_of-right.ensures in
     let few = c.area-many.ensures.small in
     record {
-      scalar-booleans = omega (arith, r, er, c.requires.wide, c.requires.ample.booleans);
-      scalar-characters = omega (arith, r, er, c.requires.wide, c.requires.ample.characters);
-      scalar-integers = omega (arith, r, er, c.requires.wide, c.requires.ample.integers);
+      scalar_booleans = omega (arith, r, er, c.requires.wide, c.requires.ample.booleans);
+      scalar_characters = omega (arith, r, er, c.requires.wide, c.requires.ample.characters);
+      scalar_integers = omega (arith, r, er, c.requires.wide, c.requires.ample.integers);
       booleans = omega (arith, l, el, few, c.requires.ample.booleans);
       characters = omega (arith, l, el, few, c.requires.ample.characters);
       integers = omega (arith, l, el, few, c.requires.ample.integers);
@@ -28,9 +28,9 @@ equal_throughout-requires-then-same-2 c =
     let er = c.start_of-right.ensures in
     let few = c.area.ensures.small in
     record {
-      scalar-booleans = omega (arith, l, el, c.requires.wide, c.requires.ample.booleans);
-      scalar-characters = omega (arith, l, el, c.requires.wide, c.requires.ample.characters);
-      scalar-integers = omega (arith, l, el, c.requires.wide, c.requires.ample.integers);
+      scalar_booleans = omega (arith, l, el, c.requires.wide, c.requires.ample.booleans);
+      scalar_characters = omega (arith, l, el, c.requires.wide, c.requires.ample.characters);
+      scalar_integers = omega (arith, l, el, c.requires.wide, c.requires.ample.integers);
       booleans = omega (arith, r, er, few, c.requires.ample.booleans);
       characters = omega (arith, r, er, few, c.requires.ample.characters);
       integers = omega (arith, r, er, few, c.requires.ample.integers);
@@ -45,10 +45,10 @@ equal-requires c =
     let er = c.start_of-right.ensures in
     let few = c.area-many.ensures.small in
     record {
-      left-booleans = omega (arith, l, el, few, c.requires.ample.booleans);
-      left-characters = omega (arith, l, el, few, c.requires.ample.characters);
-      left-integers = omega (arith, l, el, few, c.requires.ample.integers);
-      right-booleans = omega (arith, r, er, few, c.requires.ample.booleans);
-      right-characters = omega (arith, r, er, few, c.requires.ample.characters);
-      right-integers = omega (arith, r, er, few, c.requires.ample.integers);
+      left_booleans = omega (arith, l, el, few, c.requires.ample.booleans);
+      left_characters = omega (arith, l, el, few, c.requires.ample.characters);
+      left_integers = omega (arith, l, el, few, c.requires.ample.integers);
+      right_booleans = omega (arith, r, er, few, c.requires.ample.booleans);
+      right_characters = omega (arith, r, er, few, c.requires.ample.characters);
+      right_integers = omega (arith, r, er, few, c.requires.ample.integers);
     }

@@ -1,4 +1,4 @@
-use Rattle.std.proofs.Common.{◌≡◌, length, sym, refl, ◌∙◌, arith, length-set}
+use Rattle.std.proofs.Common.{arith, length-set}
 use Rattle.checker.proofs.Stacks.{room_left, held_enter}
 use Rattle.checker.proofs.opened.Blocks.enter.Goals as goal
 
