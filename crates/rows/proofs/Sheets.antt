@@ -28,11 +28,11 @@ module _ (lines : List Line) (w : ℕ) (head : Typing) (sheet : Structured lines
   taken : (i : Instruction) → says lines p ≡ i → all (near lines p) (operands i) ≡ true
   taken i e = subst (λ (j : Instruction). all (near lines p) (operands j) ≡ true) e (sheet.taken p lt)
 
-  first : (a : ℕ) (as : List ℕ) → all (near lines p) (a ∷ as) ≡ true → near lines p a ≡ true
-  first a as h = (and_parts (near lines p a) (all (near lines p) as) h).0
+  first : (a : ℕ) (cs : List ℕ) → all (near lines p) (a ∷ cs) ≡ true → near lines p a ≡ true
+  first a cs h = (and_parts (near lines p a) (all (near lines p) cs) h).0
 
-  rest : (a : ℕ) (as : List ℕ) → all (near lines p) (a ∷ as) ≡ true → all (near lines p) as ≡ true
-  rest a as h = (and_parts (near lines p a) (all (near lines p) as) h).1
+  rest : (a : ℕ) (cs : List ℕ) → all (near lines p) (a ∷ cs) ≡ true → all (near lines p) cs ≡ true
+  rest a cs h = (and_parts (near lines p a) (all (near lines p) cs) h).1
 
   under : (a : ℕ) → near lines p a ≡ true → a < p
   under a h = (near_tells lines p a h).0
