@@ -52,14 +52,14 @@ module _ (p : Place) (t : Tables) (v a : ℕ) (x y : Layout) (ly : lawful p.widt
   abbrev plan : Plan
   plan = assigned (value_from p.width t v x) (value_from p.width t a y)
 
-  assign-guard : assign_guard p t.integers a x y ≡ guarded p plan
-  assign-guard =
+  assign_guarded : assign_guard p t.integers a x y ≡ guarded p plan
+  assign_guarded =
       let o = sym (list_order p.width t a y ly) in
       let n = sym (list_count p.width t a y ly) in
       λ i. guards p (takes (known x) (known y)) (alike x y || o i) (cond (alike x y) None (Some (n i))) x (cond (alike x y) (matches (known x) (known y)) (is Scalar (known y) || eqb (n i) x.s))
 
   pub assign_refused : (r : Result Layout Fault) (e : Fault) → IsErrAnd r (λ (f : Fault). f ≡ e) → Err e ≡ assign_guard p t.integers a x y → Filled p v (outcome p.width plan) t r t
-  assign_refused r e exit h = refused p v t r e exit plan (h ∙ assign-guard)
+  assign_refused r e exit h = refused p v t r e exit plan (h ∙ assign_guarded)
 
   module _ (form : Layout) (h : Ok form ≡ assign_guard p t.integers a x y) (lx : lawful p.width x ≡ true) where
     pub assign_given : Given p.width t.integers a x y
@@ -68,22 +68,22 @@ module _ (p : Place) (t : Tables) (v a : ℕ) (x y : Layout) (ly : lawful p.widt
         record {
           variable = lx;
           value = ly;
-          taken = (tests p 0 (λ t u. Unit {0}) t t plan form (sym (h ∙ assign-guard))).2;
-          agree = ap (λ (m : ℕ). cond (alike x y) (matches (known x) (known y)) (is Scalar (known y) || eqb m x.s)) n ∙ (tests p 0 (λ t u. Unit {0}) t t plan form (sym (h ∙ assign-guard))).5;
+          taken = (tests p 0 (λ t u. Unit {0}) t t plan form (sym (h ∙ assign_guarded))).2;
+          agree = ap (λ (m : ℕ). cond (alike x y) (matches (known x) (known y)) (is Scalar (known y) || eqb m x.s)) n ∙ (tests p 0 (λ t u. Unit {0}) t t plan form (sym (h ∙ assign_guarded))).5;
         }
 
     pub assign_filled : (u : Tables) → u ≡ changed x.kind t (v * p.width) (λ k T. giving k x (value_from p.width t a y)) → Filled p v (outcome p.width plan) t (Ok form) u
     assign_filled u w =
-        written p v t u plan form (h ∙ assign-guard) (v * p.width) refl (λ k T. giving k x (value_from p.width t a y)) refl refl
-        (w ∙ ap (λ (f : Layout). changed f.kind t (v * p.width) (λ k T. giving k x (value_from p.width t a y))) (tests p 0 (λ t u. Unit {0}) t t plan form (sym (h ∙ assign-guard))).1)
+        written p v t u plan form (h ∙ assign_guarded) (v * p.width) refl (λ k T. giving k x (value_from p.width t a y)) refl refl
+        (w ∙ ap (λ (f : Layout). changed f.kind t (v * p.width) (λ k T. giving k x (value_from p.width t a y))) (tests p 0 (λ t u. Unit {0}) t t plan form (sym (h ∙ assign_guarded))).1)
 
 -- ---- what is written
 module _ (W : ℕ) (t : Tables) (v a : ℕ) (x y : Layout) (g : Given W t.integers a x y) (from to n : ℕ) (ef : from ≡ a * W) (et : to ≡ v * W) (en : n ≡ area x) where
   abbrev all : (k : Kind) → List (Cell k) → List (Cell k)
   all k T = giving k x (value_from W t a y)
 
-  kind-is : of x.kind (known y) ≡ true
-  kind-is = taken_kind (known x) y g.taken
+  kind_is : of x.kind (known y) ≡ true
+  kind_is = taken_kind (known x) y g.taken
 
   same_area : alike x y ≡ true → area y ≡ area x
   same_area e =
@@ -99,7 +99,7 @@ module _ (W : ℕ) (t : Tables) (v a : ℕ) (x y : Layout) (g : Given W t.intege
       let T = table_of x.kind t in
       let o = elements_of k (value_from W t a y) in
       let c : giving k x (value_from W t a y) ≡ o = ap (λ (b : Bool). cond (not b && is Scalar (known y)) (replicate (area x) (get_or o 0 (null_of k))) (cond b o (listing k (value_from W t a y)))) e in
-      let d : o ≡ cells T (a * W) (area y) = as_cells k y.kind t (a * W) (area y) kind-is in
+      let d : o ≡ cells T (a * W) (area y) = as_cells k y.kind t (a * W) (area y) kind_is in
       let m : n ≡ area y = en ∙ sym (same_area e) in
       let b : cells T from n ≡ cells T (a * W) (area y) = λ i. cells T (ef i) (m i) in
       w ∙ retold k t to (v * W) (λ k T. cells T from n) all et (b ∙ sym (c ∙ d))
@@ -110,7 +110,7 @@ module _ (W : ℕ) (t : Tables) (v a : ℕ) (x y : Layout) (g : Given W t.intege
       let T = table_of x.kind t in
       let o = elements_of k (value_from W t a y) in
       let c : giving k x (value_from W t a y) ≡ replicate (area x) (get_or o 0 (null_of k)) = λ i. cond (not (e i) && s i) (replicate (area x) (get_or o 0 (null_of k))) (cond (e i) o (listing k (value_from W t a y))) in
-      let d : get_or o 0 (null_of k) ≡ get_or T (a * W) (null_of k) = scalar_cell W t k a y g.value kind-is s in
+      let d : get_or o 0 (null_of k) ≡ get_or T (a * W) (null_of k) = scalar_cell W t k a y g.value kind_is s in
       let b : replicate n (get_or T from (null_of k)) ≡ replicate (area x) (get_or o 0 (null_of k)) = λ i. replicate (en i) ((ap (λ (m : ℕ). get_or T m (null_of k)) ef ∙ sym d) i) in
       w ∙ retold k t to (v * W) (λ k T. replicate n (get_or T from (null_of k))) all et (b ∙ sym c)
 
@@ -125,7 +125,7 @@ module _ (W : ℕ) (t : Tables) (v a : ℕ) (x y : Layout) (g : Given W t.intege
     given_unfold ints w =
         let o = elements_of Integer (value_from W t a y) in
         let c : giving Integer x (value_from W t a y) ≡ listing Integer (value_from W t a y) = λ i. cond (not (e i) && s i) (replicate (area x) (get_or o 0 (null_of Integer))) (cond (e i) o (listing Integer (value_from W t a y))) in
-        let integer : of Integer (known y) ≡ true = ap (λ (k : Kind). of k (known y)) (sym kind) ∙ kind-is in
+        let integer : of Integer (known y) ≡ true = ap (λ (k : Kind). of k (known y)) (sym kind) ∙ kind_is in
         let l = interval_listing W t a from y g.value ef integer (taken_list (known x) y g.taken e) ival in
         let b = sym (c ∙ l) in
         changed_integer x.kind t (v * W) all kind (w ∙ (λ i. put t.integers (et i) (b i)))

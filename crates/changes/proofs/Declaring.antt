@@ -52,43 +52,43 @@ module _ (p : Place) (t : Tables) (w : Typing) (a : ℕ) (y : Layout) (ly : lawf
   abbrev columns : ℕ
   columns = columns_at p.width t.integers a w y
 
-  columns-are : columns ≡ columns_for w (value_from p.width t a y)
-  columns-are = ap (λ (m : ℕ). cond (shaped w y) y.s m) (sym (list_count p.width t a y ly))
+  columns_are : columns ≡ columns_for w (value_from p.width t a y)
+  columns_are = ap (λ (m : ℕ). cond (shaped w y) y.s m) (sym (list_count p.width t a y ly))
 
-  declare-guard : declare_guard p t.integers a w y ≡ guarded p plan
-  declare-guard =
+  declare_guarded : declare_guard p t.integers a w y ≡ guarded p plan
+  declare_guarded =
       let o = sym (list_order p.width t a y ly) in
       let n = sym (list_count p.width t a y ly) in
-      let m = columns-are in
+      let m = columns_are in
       λ i. guards p (begins w y) (shaped w y || o i) (cond (shaped w y) None (Some (n i))) (layout_for w y (m i)) (fills w y || room_for w y (m i))
 
   pub declare_refused : (r : Result Layout Fault) (e : Fault) → IsErrAnd r (λ (f : Fault). f ≡ e) → Err e ≡ declare_guard p t.integers a w y → Filled p p.row (outcome p.width plan) t r t
-  declare_refused r e exit h = refused p p.row t r e exit plan (h ∙ declare-guard)
+  declare_refused r e exit h = refused p p.row t r e exit plan (h ∙ declare_guarded)
 
   module _ (form : Layout) (h : Ok form ≡ declare_guard p t.integers a w y) where
     same : declared_layout w (value_from p.width t a y) ≡ form
-    same = (tests p 0 (λ t u. Unit {0}) t t plan form (sym (h ∙ declare-guard))).1
+    same = (tests p 0 (λ t u. Unit {0}) t t plan form (sym (h ∙ declare_guarded))).1
 
-    is-layout : layout_for w y columns ≡ form
-    is-layout = ap (layout_for w y) columns-are ∙ same
+    is_layout : layout_for w y columns ≡ form
+    is_layout = ap (layout_for w y) columns_are ∙ same
 
     agree : fills w y ≡ false → room_for w y columns ≡ true
-    agree e = unless_fills (fills w y) (room_for w y columns) (ap (λ (m : ℕ). fills w y || room_for w y m) columns-are ∙ (tests p 0 (λ t u. Unit {0}) t t plan form (sym (h ∙ declare-guard))).5) e
+    agree e = unless_fills (fills w y) (room_for w y columns) (ap (λ (m : ℕ). fills w y || room_for w y m) columns_are ∙ (tests p 0 (λ t u. Unit {0}) t t plan form (sym (h ∙ declare_guarded))).5) e
 
     pub declare_begun : within p.width form.r form.s ≡ true → Begun p.width t.integers a w y form
     declare_begun small =
         record {
           value = ly;
-          taken = (and_parts (takes w (known y)) (not (fills w y) || (is_known w.r && is_known w.s)) (tests p 0 (λ t u. Unit {0}) t t plan form (sym (h ∙ declare-guard))).2).0;
+          taken = (and_parts (takes w (known y)) (not (fills w y) || (is_known w.r && is_known w.s)) (tests p 0 (λ t u. Unit {0}) t t plan form (sym (h ∙ declare_guarded))).2).0;
           small = small;
-          rows = λ e. (let l = fits_or y.r w.r (and_parts (fits_in (Known y.r) w.r) (fits_in (Known columns) w.s) (agree e)).0 in let q = ap (λ (f : Layout). f.r) is-layout in omega (arith, l, q));
-          columns = λ e. (let l = fits_or columns w.s (and_parts (fits_in (Known y.r) w.r) (fits_in (Known columns) w.s) (agree e)).1 in let q = ap (λ (f : Layout). f.s) is-layout in omega (arith, l, q));
+          rows = λ e. (let l = fits_or y.r w.r (and_parts (fits_in (Known y.r) w.r) (fits_in (Known columns) w.s) (agree e)).0 in let q = ap (λ (f : Layout). f.r) is_layout in omega (arith, l, q));
+          columns = λ e. (let l = fits_or columns w.s (and_parts (fits_in (Known y.r) w.r) (fits_in (Known columns) w.s) (agree e)).1 in let q = ap (λ (f : Layout). f.s) is_layout in omega (arith, l, q));
         }
 
     pub declare_filled : (u : Tables) → u ≡ changed w.kind t (p.row * p.width) (λ k T. beginning k w form (value_from p.width t a y)) → Filled p p.row (outcome p.width plan) t (Ok form) u
     declare_filled u e =
         let ok : Layout → Result (List (Cell w.kind)) ElementFault = λ f. Ok (beginning w.kind w f (value_from p.width t a y)) in
-        written p p.row t u plan form (h ∙ declare-guard) (p.row * p.width) refl (λ k T. beginning k w form (value_from p.width t a y)) refl (ap ok same)
+        written p p.row t u plan form (h ∙ declare_guarded) (p.row * p.width) refl (λ k T. beginning k w form (value_from p.width t a y)) refl (ap ok same)
         (e ∙ ap (λ (f : Layout). changed f.kind t (p.row * p.width) (λ k T. beginning k w form (value_from p.width t a y))) same)
 
 -- ---- what is written
@@ -96,8 +96,8 @@ module _ (W : ℕ) (t : Tables) (w : Typing) (a i : ℕ) (y f : Layout) (g : Beg
   abbrev all : (k : Kind) → List (Cell k) → List (Cell k)
   all k T = beginning k w f (value_from W t a y)
 
-  kind-is : of w.kind (known y) ≡ true
-  kind-is = taken_kind w y g.taken
+  kind_is : of w.kind (known y) ≡ true
+  kind_is = taken_kind w y g.taken
 
   pub begun_resize : (u : Tables) → shaped w y ≡ true → u ≡ changed w.kind t to (λ k T. resized (null_of k) f.r f.s (rows_of y.r y.s (cells T from (y.r * y.s)))) → u ≡ changed w.kind t (i * W) all
   begun_resize u e h =
@@ -107,7 +107,7 @@ module _ (W : ℕ) (t : Tables) (w : Typing) (a i : ℕ) (y f : Layout) (g : Beg
       let o = elements_of k v in
       let c : beginning k w f v ≡ resized (null_of k) f.r f.s (rows_of y.r y.s o) =
       λ j. cond (not (e j) && is Scalar (known y)) (replicate (area f) (get_or o 0 (null_of k))) (resized (null_of k) f.r f.s (rows_of y.r (cond (e j) y.s (count v)) (cond (e j) o (listing k v)))) in
-      let d : o ≡ cells T from (y.r * y.s) = as_cells k y.kind t (a * W) (area y) kind-is ∙ ap (λ (m : ℕ). cells T m (y.r * y.s)) (sym ef) in
+      let d : o ≡ cells T from (y.r * y.s) = as_cells k y.kind t (a * W) (area y) kind_is ∙ ap (λ (m : ℕ). cells T m (y.r * y.s)) (sym ef) in
       h ∙ retold k t to (i * W) (λ k T. resized (null_of k) f.r f.s (rows_of y.r y.s (cells T from (y.r * y.s)))) all et (sym (c ∙ ap (λ (xs : List (Cell k)). resized (null_of k) f.r f.s (rows_of y.r y.s xs)) d))
 
   pub begun_spread : (u : Tables) → shaped w y ≡ false → is Scalar (known y) ≡ true → u ≡ changed w.kind t to (λ k T. replicate (f.r * f.s) (get_or T from (null_of k))) → u ≡ changed w.kind t (i * W) all
@@ -118,7 +118,7 @@ module _ (W : ℕ) (t : Tables) (w : Typing) (a i : ℕ) (y f : Layout) (g : Beg
       let o = elements_of k v in
       let c : beginning k w f v ≡ replicate (area f) (get_or o 0 (null_of k)) =
       λ j. cond (not (e j) && s j) (replicate (area f) (get_or o 0 (null_of k))) (resized (null_of k) f.r f.s (rows_of y.r (cond (e j) y.s (count v)) (cond (e j) o (listing k v)))) in
-      let d : get_or o 0 (null_of k) ≡ get_or T from (null_of k) = scalar_cell W t k a y g.value kind-is s ∙ ap (λ (m : ℕ). get_or T m (null_of k)) (sym ef) in
+      let d : get_or o 0 (null_of k) ≡ get_or T from (null_of k) = scalar_cell W t k a y g.value kind_is s ∙ ap (λ (m : ℕ). get_or T m (null_of k)) (sym ef) in
       h ∙ retold k t to (i * W) (λ k T. replicate (f.r * f.s) (get_or T from (null_of k))) all et (sym (c ∙ ap (replicate (area f)) d))
 
   module _ (e : shaped w y ≡ false) (s : is Scalar (known y) ≡ false) where
@@ -162,7 +162,7 @@ module _ (W : ℕ) (t : Tables) (w : Typing) (a i : ℕ) (y f : Layout) (g : Beg
         let null = null_of Integer in
         let c : beginning Integer w f v ≡ resized null f.r f.s (rows_of y.r (count v) (listing Integer v)) =
         λ j. cond (not (e j) && s j) (replicate (area f) (get_or o 0 null)) (resized null f.r f.s (rows_of y.r (cond (e j) y.s (count v)) (cond (e j) o (listing Integer v)))) in
-        let integer : of Integer (known y) ≡ true = ap (λ (k : Kind). of k (known y)) (sym kind) ∙ kind-is in
+        let integer : of Integer (known y) ≡ true = ap (λ (k : Kind). of k (known y)) (sym kind) ∙ kind_is in
         let l : listing Integer v ≡ between low high = interval_listing W t a from y g.value ef integer (taken_list w y g.taken e) ival in
         let n : count v ≡ spanned low high = list_count W t a y g.value ∙ interval_span W t.integers a from y ef ival in
         let r = one in

@@ -55,11 +55,11 @@ module _ (p : Place) (i : ℕ) (t u : Tables) (q : Plan) (x : Layout) (h : Ok x 
     abbrev all : List (Cell q.layout.kind)
     all = f q.layout.kind (table_of q.layout.kind t)
 
-    changed-placed : u ≡ changed x.kind t to f → u ≡ placed_in p.width t i (value_of q.layout all)
-    changed-placed w = w ∙ ap (λ (g : Layout). changed g.kind t to f) (sym form_is) ∙ ap (λ (n : ℕ). changed q.layout.kind t n f) e
+    changed_placed : u ≡ changed x.kind t to f → u ≡ placed_in p.width t i (value_of q.layout all)
+    changed_placed w = w ∙ ap (λ (g : Layout). changed g.kind t to f) (sym form_is) ∙ ap (λ (n : ℕ). changed q.layout.kind t n f) e
 
     pub written : q.outside ≡ None → q.elements ≡ Ok all → u ≡ changed x.kind t to f → Filled p i (outcome p.width q) t (Ok x) u
-    written none is w = placed all none is (changed-placed w)
+    written none is w = placed all none is (changed_placed w)
 
     -- the same, where an index may be outside
     pub chosen : (o : Option ℕ) (s : Result (Unit {0}) Outside) (r : Result Layout Fault) → q.outside ≡ o → q.elements ≡ Ok all → Chosen o t (changed x.kind t to f) s u → r ≡ indexed p x s → Filled p i (outcome p.width q) t r u

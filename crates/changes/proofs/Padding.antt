@@ -9,8 +9,8 @@ use Rattle.element.proofs.Writes.{put_put}
 use Rattle.picks.specs.Indices.{spanned, between}
 
 module _ {X : Type 0} (null : X) (s : ℕ) where
-  empty-row : padded null s [] ≡ replicate s null
-  empty-row =
+  empty_row : padded null s [] ≡ replicate s null
+  empty_row =
       let z : s - 0 ≡ s = omega arith in
       ap (λ (xs : List X). xs ++ replicate (s - 0) null) (take_all s [] (omega arith)) ∙ ap (λ (n : ℕ). replicate n null) z
 
@@ -22,7 +22,7 @@ module _ {X : Type 0} (null : X) (s : ℕ) where
     rows_under : (n j : ℕ) → 1 ≤ j → joined (map row (range_with_len j n)) ≡ replicate (n * s) null
     rows_under zero j h = ap (λ (m : ℕ). replicate m null) (sym (zero-mul s))
     rows_under (suc n) j h =
-        let e : row j ≡ replicate s null = ap (padded null s) (get_or_past (x ∷ []) j [] (omega arith)) ∙ empty-row in
+        let e : row j ≡ replicate s null = ap (padded null s) (get_or_past (x ∷ []) j [] (omega arith)) ∙ empty_row in
         let r : joined (map row (range_with_len (j + 1) n)) ≡ replicate (n * s) null = rows_under n (j + 1) (omega arith) in
         let m : s + n * s ≡ suc n * s = omega (arith, suc-mul n s) in
         (λ i. e i ++ r i) ∙ replicate-append-replicate s (n * s) null ∙ ap (λ (k : ℕ). replicate k null) m
@@ -36,13 +36,13 @@ module _ {X : Type 0} (null : X) (s : ℕ) where
         (λ i. e i ++ r i) ∙ append_assoc x (replicate (s - length x) null) (replicate (n * s) null)
         ∙ ap (λ (ys : List X). x ++ ys) (replicate-append-replicate (s - length x) (n * s) null ∙ ap (λ (k : ℕ). replicate k null) m)
 
-    rows-one : rows_of 1 (length x) x ≡ x ∷ []
-    rows-one = ap (λ (y : List X). y ∷ []) (ap (λ (k : ℕ). take (length x) (drop k x)) (zero-mul (length x)) ∙ take_all (length x) x (le_refl _))
+    rows_one : rows_of 1 (length x) x ≡ x ∷ []
+    rows_one = ap (λ (y : List X). y ∷ []) (ap (λ (k : ℕ). take (length x) (drop k x)) (zero-mul (length x)) ∙ take_all (length x) x (le_refl _))
 
     -- a matrix of one line x of m elements, padded
     pub line_padded : (r m : ℕ) → length x ≡ m → 1 ≤ r → m ≤ s → resized null r s (rows_of 1 m x) ≡ x ++ replicate (r * s - m) null
     line_padded r m e h l =
-        ap (λ (k : ℕ). resized null r s (rows_of 1 k x)) (sym e) ∙ ap (resized null r s) rows-one ∙ one_line r h (omega (arith, e)) ∙ ap (λ (k : ℕ). x ++ replicate (r * s - k) null) e
+        ap (λ (k : ℕ). resized null r s (rows_of 1 k x)) (sym e) ∙ ap (resized null r s) rows_one ∙ one_line r h (omega (arith, e)) ∙ ap (λ (k : ℕ). x ++ replicate (r * s - k) null) e
 
 pub length_between : (low high : ℤ) → length (between low high) ≡ spanned low high
 length_between low high = length-map-range_with_len (λ k. low +ℤ pos k) 0 (spanned low high)

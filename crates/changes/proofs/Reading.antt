@@ -8,7 +8,7 @@ use Rattle.types.specs.declared.kinds.Shape.TheVariants.{Scalar, Vector, Matrix,
 use Rattle.types.specs.Types.{same_shape}
 use Rattle.types.specs.Typings.{is, of}
 use Rattle.element.specs.Cells.{cells}
-use Rattle.element.proofs.Writes.{get_d_cells}
+use Rattle.element.proofs.Writes.{get_or_cells}
 use Rattle.meaning.specs.declared.layouts.Layout.{Layout}
 use Rattle.meaning.specs.Values.{Cell, null_of, area, known, fixed, lawful, layout_of, elements_of}
 use Rattle.meaning.specs.Elements.{along}
@@ -51,7 +51,7 @@ scalar_cell W t k a x law kind s =
     let one = scalar_one x (lawful_fixed W x law) s in
     let n : area x ≡ 1 = λ i. one.0 i * one.1 i in
     ap (λ (xs : List (Cell k)). get_or xs 0 (null_of k)) (as_cells k x.kind t (a * W) (area x) kind)
-    ∙ get_d_cells (table_of k t) (a * W) (area x) 0 (null_of k) (omega (arith, n))
+    ∙ get_or_cells (table_of k t) (a * W) (area x) 0 (null_of k) (omega (arith, n))
     ∙ ap (λ (m : ℕ). get_or (table_of k t) m (null_of k)) (add-zero (a * W))
 
 -- n elements of an operand: its cells, or a scalar's n times

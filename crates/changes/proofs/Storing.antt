@@ -73,28 +73,28 @@ module _ (p : Place) (t : Tables) (v b c : ℕ) (x y z : Layout) (ly : lawful p.
   abbrev list : Index
   list = list_at p.width t.integers b y
 
-  store-guard : store_guard p t.integers b x y z ≡ guarded p plan
-  store-guard =
+  store_guarded : store_guard p t.integers b x y z ≡ guarded p plan
+  store_guarded =
       let o = sym (list_order p.width t b y ly) in
       let n = sym (list_count p.width t b y ly) in
       λ i. guards p (stores x y z) (o i) (Some (n i)) x (is Scalar (known z) || eqb (n i) z.s)
 
   pub store_refused : (r : Result Layout Fault) (e : Fault) → IsErrAnd r (λ (f : Fault). f ≡ e) → Err e ≡ store_guard p t.integers b x y z → Filled p v (outcome p.width plan) t r t
-  store_refused r e exit h = refused p v t r e exit plan (h ∙ store-guard)
+  store_refused r e exit h = refused p v t r e exit plan (h ∙ store_guarded)
 
   module _ (form : Layout) (h : Ok form ≡ store_guard p t.integers b x y z) (lx : lawful p.width x ≡ true) (lz : lawful p.width z ≡ true) where
     pub ruled : stores x y z ≡ true
-    ruled = (tests p 0 (λ t u. Unit {0}) t t plan form (sym (h ∙ store-guard))).2
+    ruled = (tests p 0 (λ t u. Unit {0}) t t plan form (sym (h ∙ store_guarded))).2
 
     same : x ≡ form
-    same = (tests p 0 (λ t u. Unit {0}) t t plan form (sym (h ∙ store-guard))).1
+    same = (tests p 0 (λ t u. Unit {0}) t t plan form (sym (h ∙ store_guarded))).1
 
     agree : (is Scalar (known z) || eqb (index_count list) z.s) ≡ true
-    agree = ap (λ (n : ℕ). is Scalar (known z) || eqb n z.s) (sym (list_count p.width t b y ly)) ∙ (tests p 0 (λ t u. Unit {0}) t t plan form (sym (h ∙ store-guard))).5
+    agree = ap (λ (n : ℕ). is Scalar (known z) || eqb n z.s) (sym (list_count p.width t b y ly)) ∙ (tests p 0 (λ t u. Unit {0}) t t plan form (sym (h ∙ store_guarded))).5
 
     few : index_count list ≤ p.width
     few =
-        let f = (and_parts (leb (count (value_from p.width t b y)) p.width) _ (tests p 0 (λ t u. Unit {0}) t t plan form (sym (h ∙ store-guard))).4).0 in
+        let f = (and_parts (leb (count (value_from p.width t b y)) p.width) _ (tests p 0 (λ t u. Unit {0}) t t plan form (sym (h ∙ store_guarded))).4).0 in
         let e = list_count p.width t b y ly in
         let l = leb-true (count (value_from p.width t b y)) p.width f in
         omega (arith, l, e)
@@ -106,16 +106,16 @@ module _ (p : Place) (t : Tables) (v b c : ℕ) (x y z : Layout) (ly : lawful p.
     all s = ap (λ (r : ℕ). r * z.s) (vector_one z (lawful_fixed p.width z lz) (or_vector x y z ruled s)) ∙ one-mul z.s ∙ sym (length_by (is Scalar (known z)) (index_count list) z.s agree s)
 
     module _ (to : ℕ) (et : to ≡ v * p.width) (ix : Index) (ei : ix ≡ list) (vs : Values) (ev : vs ≡ values_at p.width c z) where
-      store-outside : plan.outside ≡ first_outside 1 form.s (indices_of ix t.integers)
-      store-outside =
+      store_outside : plan.outside ≡ first_outside 1 form.s (indices_of ix t.integers)
+      store_outside =
           let l = list_elements p.width t b y ly (by_integers x y z ruled) (by_list x y z ruled) ∙ ap (λ (o : Index). indices_of o t.integers) (sym ei) in
           λ i. first_outside 1 (same i).s (l i)
 
       abbrev writes : (k : Kind) → List (Cell k) → List (Cell k)
       writes k T = stored (cells T to form.s) (indices_of ix t.integers) (values_of (null_of k) T vs (index_count ix))
 
-      store-elements : plan.elements ≡ Ok (writes x.kind (table_of x.kind t))
-      store-elements =
+      store_elements : plan.elements ≡ Ok (writes x.kind (table_of x.kind t))
+      store_elements =
           let k = x.kind in
           let T = table_of x.kind t in
           let l = list_elements p.width t b y ly (by_integers x y z ruled) (by_list x y z ruled) ∙ ap (λ (o : Index). indices_of o t.integers) (sym ei) in
@@ -128,7 +128,7 @@ module _ (p : Place) (t : Tables) (v b c : ℕ) (x y z : Layout) (ly : lawful p.
           λ i. Ok (stored (cells T (at i) (rows i)) (l i) (w i))
 
       pub store_filled : (u : Tables) (s : Result (Unit {0}) Outside) (r : Result Layout Fault) → Chosen (first_outside 1 form.s (indices_of ix t.integers)) t (changed form.kind t to writes) s u → r ≡ indexed p form s → Filled p v (outcome p.width plan) t r u
-      store_filled u s r w e = chosen p v t u plan form (h ∙ store-guard) to et writes (first_outside 1 form.s (indices_of ix t.integers)) s r store-outside store-elements w e
+      store_filled u s r w e = chosen p v t u plan form (h ∙ store_guarded) to et writes (first_outside 1 form.s (indices_of ix t.integers)) s r store_outside store_elements w e
 
       module _ (b-row : b < p.row) (c-row : c < p.row) (v-b : v < b) (v-c : v < c) where
         small : form.s ≤ p.width

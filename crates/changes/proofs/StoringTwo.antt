@@ -43,11 +43,11 @@ module _ (p : Place) (t : Tables) (v b c d : ℕ) (x y z w form : Layout) (h : O
   row_is : (of Integer (known y) ≡ true) × (is Scalar (known y) ≡ true)
   row_is = and_parts (of Integer (known y)) (is Scalar (known y)) operands.0
 
-  column-is : (of Integer (known z) ≡ true) × (is Scalar (known z) ≡ true)
-  column-is = and_parts (of Integer (known z)) (is Scalar (known z)) operands.1
+  column_is : (of Integer (known z) ≡ true) × (is Scalar (known z) ≡ true)
+  column_is = and_parts (of Integer (known z)) (is Scalar (known z)) operands.1
 
-  value-is : (of x.kind (known w) ≡ true) × (is Scalar (known w) ≡ true)
-  value-is = and_parts (of x.kind (known w)) (is Scalar (known w)) operands.2
+  value_is : (of x.kind (known w) ≡ true) × (is Scalar (known w) ≡ true)
+  value_is = and_parts (of x.kind (known w)) (is Scalar (known w)) operands.2
 
   module _ (to row column from : ℕ) (et : to ≡ v * p.width) (er : row ≡ b * p.width) (ec : column ≡ c * p.width) (ef : from ≡ d * p.width) where
     abbrev i : ℤ
@@ -56,38 +56,38 @@ module _ (p : Place) (t : Tables) (v b c d : ℕ) (x y z w form : Layout) (h : O
     abbrev j : ℤ
     j = get_or t.integers column (pos 0)
 
-    i-is : first (value_from p.width t b y) ≡ i
-    i-is = scalar_cell p.width t Integer b y ly row_is.0 row_is.1 ∙ ap (λ (m : ℕ). get_or t.integers m (pos 0)) (sym er)
+    i_is : first (value_from p.width t b y) ≡ i
+    i_is = scalar_cell p.width t Integer b y ly row_is.0 row_is.1 ∙ ap (λ (m : ℕ). get_or t.integers m (pos 0)) (sym er)
 
-    j-is : first (value_from p.width t c z) ≡ j
-    j-is = scalar_cell p.width t Integer c z lz column-is.0 column-is.1 ∙ ap (λ (m : ℕ). get_or t.integers m (pos 0)) (sym ec)
+    j_is : first (value_from p.width t c z) ≡ j
+    j_is = scalar_cell p.width t Integer c z lz column_is.0 column_is.1 ∙ ap (λ (m : ℕ). get_or t.integers m (pos 0)) (sym ec)
 
-    two-outside : plan.outside ≡ first_outside2 form.r form.s (i ∷ []) (j ∷ [])
-    two-outside = λ m. first_outside2 (same m).r (same m).s (i-is m ∷ []) (j-is m ∷ [])
+    two_outside : plan.outside ≡ first_outside2 form.r form.s (i ∷ []) (j ∷ [])
+    two_outside = λ m. first_outside2 (same m).r (same m).s (i_is m ∷ []) (j_is m ∷ [])
 
     abbrev writes : (k : Kind) → List (Cell k) → List (Cell k)
     writes k T = set (cells T to (form.r * form.s)) (place_of i * form.s + place_of j) (get_or T from (null_of k))
 
-    two-elements : plan.elements ≡ Ok (writes x.kind (table_of x.kind t))
-    two-elements =
+    two_elements : plan.elements ≡ Ok (writes x.kind (table_of x.kind t))
+    two_elements =
         let k = x.kind in
         let T = table_of x.kind t in
-        let e = scalar_cell p.width t k d w lw value-is.0 value-is.1 ∙ ap (λ (m : ℕ). get_or T m (null_of k)) (sym ef) in
+        let e = scalar_cell p.width t k d w lw value_is.0 value_is.1 ∙ ap (λ (m : ℕ). get_or T m (null_of k)) (sym ef) in
         let at = sym et in
-        λ m. Ok (set (cells T (at m) ((same m).r * (same m).s)) (place_of (i-is m) * (same m).s + place_of (j-is m)) (e m))
+        λ m. Ok (set (cells T (at m) ((same m).r * (same m).s)) (place_of (i_is m) * (same m).s + place_of (j_is m)) (e m))
 
     pub two_filled : (u : Tables) (s : Result (Unit {0}) Outside) (r : Result Layout Fault) → Chosen (first_outside2 form.r form.s (i ∷ []) (j ∷ [])) t (changed form.kind t to writes) s u → r ≡ indexed p form s → Filled p v (outcome p.width plan) t r u
-    two_filled u s r g e = chosen p v t u plan form h to et writes (first_outside2 form.r form.s (i ∷ []) (j ∷ [])) s r two-outside two-elements g e
+    two_filled u s r g e = chosen p v t u plan form h to et writes (first_outside2 form.r form.s (i ∷ []) (j ∷ [])) s r two_outside two_elements g e
 
     module _ (len : ℕ) (ample : p.row * p.width + p.width ≤ len) where
       pub row_below : b < p.row → row < len
       row_below lt = let o = one_cell p.width b p.row len y lt ly row_is.1 ample in omega (arith, o, er)
 
       pub column_below : c < p.row → column < len
-      column_below lt = let o = one_cell p.width c p.row len z lt lz column-is.1 ample in omega (arith, o, ec)
+      column_below lt = let o = one_cell p.width c p.row len z lt lz column_is.1 ample in omega (arith, o, ec)
 
       pub value_below : d < p.row → from < len
-      value_below lt = let o = one_cell p.width d p.row len w lt lw value-is.1 ample in omega (arith, o, ef)
+      value_below lt = let o = one_cell p.width d p.row len w lt lw value_is.1 ample in omega (arith, o, ef)
 
       pub matrix_fits : v < p.row → to + form.r * form.s ≤ len
       matrix_fits lt =

@@ -254,11 +254,11 @@ module _ (w : ℕ) (result : Typing) (rows : List Row) (lines : List Line) (ok :
 
   -- ---- what the rows of a lawful sheet can read, by intervals
   -- a variable in scope: each block that holds its row holds row p
-  scope-block : (v p c : ℕ) (o : Option ℕ) (cs : List ℕ) → v < p → p < length rows → cs ≡ blocks lines v → o ≡ innermost cs → still_in o (blocks lines p) ≡ true → member c cs ≡ true → p ≤ closer (at lines c).instruction
-  scope-block v p c None [] vp lt is e k h = absurd (never h)
-  scope-block v p c None (x ∷ xs) vp lt is e k h = absurd (let z : ◌≡◌ {A = ℕ} 0 1 = cc in omega arith)
-  scope-block v p c (Some d) [] vp lt is e k h = absurd (never h)
-  scope-block v p c (Some d) (x ∷ xs) vp lt is e k h =
+  scope_block : (v p c : ℕ) (o : Option ℕ) (cs : List ℕ) → v < p → p < length rows → cs ≡ blocks lines v → o ≡ innermost cs → still_in o (blocks lines p) ≡ true → member c cs ≡ true → p ≤ closer (at lines c).instruction
+  scope_block v p c None [] vp lt is e k h = absurd (never h)
+  scope_block v p c None (x ∷ xs) vp lt is e k h = absurd (let z : ◌≡◌ {A = ℕ} 0 1 = cc in omega arith)
+  scope_block v p c (Some d) [] vp lt is e k h = absurd (never h)
+  scope_block v p c (Some d) (x ∷ xs) vp lt is e k h =
       let same = some_same d x e in
       let held : member x (blocks lines p) ≡ true = subst (λ (y : ℕ). member y (blocks lines p) ≡ true) same k in
       let far = (closes p x lt held).later in
@@ -292,7 +292,7 @@ module _ (w : ℕ) (result : Typing) (rows : List Row) (lines : List Line) (ok :
       record {
         before = vp;
         declared = ap (λ (x : Line). declares x.instruction) (sym same) ∙ inner.0;
-        holds = λ c cv o vc. scope-block v p c (at lines v).block (blocks lines v) vp lt refl stands still (open_within c v (omega arith) o cv vc);
+        holds = λ c cv o vc. scope_block v p c (at lines v).block (blocks lines v) vp lt refl stands still (open_within c v (omega arith) o cv vc);
       }
 
   -- an each that is read, and the loop that a test, break or continue leaves: they hold row p

@@ -93,8 +93,8 @@ module _ (w : ℕ) (result : Typing) (rows : List Row) (lines : List Line) (ok :
   lower : (p : ℕ) → p < length lines → p < length rows
   lower p lt = let l = ok.long in omega arith
 
-  near-front : (p a : ℕ) → near (upto p) p a ≡ near lines p a
-  near-front p a =
+  near_front : (p a : ℕ) → near (upto p) p a ≡ near lines p a
+  near_front p a =
       let e = below_same (λ i. ltb i a || makes (at (upto p) i).instruction) (λ i. ltb i a || makes (at lines i).instruction) p (λ j lt. ap (λ (x : Line). ltb j a || makes x.instruction) (blocked.front w result rows lines ok p j lt)) in
       λ i. ltb a p && e i
 
@@ -102,15 +102,15 @@ module _ (w : ℕ) (result : Typing) (rows : List Row) (lines : List Line) (ok :
   passed p lt = blocked.passed w result rows lines ok p (lower p lt)
 
   taken : (p : ℕ) → p < length lines → all (near lines p) (operands (says lines p)) ≡ true
-  taken p lt = let e = near-front p in sym (λ i. all (λ a. e a i) (operands (says lines p))) ∙ (passed p lt).near_operands
+  taken p lt = let e = near_front p in sym (λ i. all (λ a. e a i) (operands (says lines p))) ∙ (passed p lt).near_operands
 
-  noted-front : (p a : ℕ) → a < p → typing_at (upto p) a ≡ typing_at lines a
-  noted-front p a lt = ap (λ (x : Line). typing_of x.typing) (blocked.front w result rows lines ok p a lt)
+  noted_front : (p a : ℕ) → a < p → typing_at (upto p) a ≡ typing_at lines a
+  noted_front p a lt = ap (λ (x : Line). typing_of x.typing) (blocked.front w result rows lines ok p a lt)
 
   typing : (p : ℕ) → p < length lines → typed w result (typing_at lines) (says lines p) ≡ Ok (at lines p).typing
   typing p lt =
       sym (typed_same w result (typing_at (upto p)) (typing_at lines) (near (upto p) p) (λ v. ltb v p)
-      (λ a h. noted-front p a (near_tells (upto p) p a h).0) (λ v h. noted-front p v (ltb-true v p h)) (says lines p)
+      (λ a h. noted_front p a (near_tells (upto p) p a h).0) (λ v h. noted_front p v (ltb-true v p h)) (says lines p)
       (passed p lt).near_operands (names_before (upto p) p (held p) (blocks_falling (upto p) p) (says lines p) (passed p lt).in_scope))
       ∙ (passed p lt).typing
 
@@ -120,26 +120,26 @@ module _ (w : ℕ) (result : Typing) (rows : List Row) (lines : List Line) (ok :
       let vp = s.before in
       record { before = vp; declared = s.declared; around = λ c o k. let cv = k.before in record { before = omega arith; upto = s.holds c cv o k.upto } }
 
-  scoped-as : (p : ℕ) (i : Instruction) → p < length lines → says lines p ≡ i → scoped (upto p) p (held p) i ≡ true
-  scoped-as p i lt e = subst (λ (x : Instruction). scoped (upto p) p (held p) x ≡ true) e (passed p lt).in_scope
+  scoped_as : (p : ℕ) (i : Instruction) → p < length lines → says lines p ≡ i → scoped (upto p) p (held p) i ≡ true
+  scoped_as p i lt e = subst (λ (x : Instruction). scoped (upto p) p (held p) x ≡ true) e (passed p lt).in_scope
 
-  nests-as : (p : ℕ) (i : Instruction) → p < length lines → says lines p ≡ i → nests (upto p) p (held p) (eqb (p + 1) (length rows)) i ≡ true
-  nests-as p i lt e = subst (λ (x : Instruction). nests (upto p) p (held p) (eqb (p + 1) (length rows)) x ≡ true) e (passed p lt).nested
+  nests_as : (p : ℕ) (i : Instruction) → p < length lines → says lines p ≡ i → nests (upto p) p (held p) (eqb (p + 1) (length rows)) i ≡ true
+  nests_as p i lt e = subst (λ (x : Instruction). nests (upto p) p (held p) (eqb (p + 1) (length rows)) x ≡ true) e (passed p lt).nested
 
-  leads-as : (p : ℕ) (i : Instruction) → p < length lines → says lines p ≡ i → (at lines p).target ≡ target_of (upto p) (held p) i
-  leads-as p i lt e = (passed p lt).leads ∙ ap (target_of (upto p) (held p)) e
+  leads_as : (p : ℕ) (i : Instruction) → p < length lines → says lines p ≡ i → (at lines p).target ≡ target_of (upto p) (held p) i
+  leads_as p i lt e = (passed p lt).leads ∙ ap (target_of (upto p) (held p)) e
 
   read : (p v : ℕ) → p < length lines → says lines p ≡ Expression (make.Variable v) → Visible lines v p ⊎ Ranging lines v p
   read p v lt e =
       ⊎_elim (λ s. inl (visible p v lt s))
       (λ s. let r = blocked.each_holds w result rows lines ok v p (lower p lt) s in inr (record { ranging = r.1; around = record { before = r.0.before; upto = r.0.upto } }))
-      (or_cases (in_scope (upto p) p (held p) v) (in_each (upto p) (held p) v) (scoped-as p (Expression (make.Variable v)) lt e))
+      (or_cases (in_scope (upto p) p (held p) v) (in_each (upto p) (held p) v) (scoped_as p (Expression (make.Variable v)) lt e))
 
   looping : (p b : ℕ) → p < length lines → loop_among (upto p) (held p) ≡ Some b → Looping lines b p
   looping p b lt h = let r = blocked.loop_holds w result rows lines ok b p (lower p lt) h in record { looping = r.1; around = record { before = r.0.before; upto = r.0.upto } }
 
-  loop-of : (p : ℕ) → p < length lines → is_some (loop_among (upto p) (held p)) ≡ true → (at lines p).target ≡ closer (at (upto p) (row_of (loop_among (upto p) (held p)))).instruction → (b : ℕ) × Looping lines b p × ((at lines p).target ≡ partner lines b)
-  loop-of p lt some leads =
+  loop_of : (p : ℕ) → p < length lines → is_some (loop_among (upto p) (held p)) ≡ true → (at lines p).target ≡ closer (at (upto p) (row_of (loop_among (upto p) (held p)))).instruction → (b : ℕ) × Looping lines b p × ((at lines p).target ≡ partner lines b)
+  loop_of p lt some leads =
       let s = some_of (loop_among (upto p) (held p)) some in
       let b = s.0 in
       let loop = looping p b lt s.1 in
@@ -150,28 +150,28 @@ module _ (w : ℕ) (result : Typing) (rows : List Row) (lines : List Line) (ok :
     typing = λ p lt. typing p lt;
     taken = taken;
     read = read;
-    assigned = λ p v a lt e. visible p v lt (scoped-as p (Change (change.Assign v a)) lt e);
-    stored = λ p v b c lt e. visible p v lt (scoped-as p (Change (change.Store v b c)) lt e);
-    stored_two = λ p v b c d lt e. visible p v lt (scoped-as p (Change (change.StoreTwo v b c d)) lt e);
-    filled = λ p v lt e. visible p v lt (scoped-as p (Change (change.Read v)) lt e);
+    assigned = λ p v a lt e. visible p v lt (scoped_as p (Change (change.Assign v a)) lt e);
+    stored = λ p v b c lt e. visible p v lt (scoped_as p (Change (change.Store v b c)) lt e);
+    stored_two = λ p v b c d lt e. visible p v lt (scoped_as p (Change (change.StoreTwo v b c d)) lt e);
+    filled = λ p v lt e. visible p v lt (scoped_as p (Change (change.Read v)) lt e);
     later = λ b lt o. blocked.later w result rows lines ok b (lower b lt) o;
     inside = λ b lt o. let n = blocked.open_next w result rows lines ok b (lower b lt) o in let l = ok.long in let s = n.0 in let k = (blocked.closes w result rows lines ok (suc b) b (omega arith) n.1).inside in omega arith;
     shut = λ b lt o. blocked.shut w result rows lines ok b (lower b lt) o;
     nest = λ c b lt oc ob cb inside. blocked.nest w result rows lines ok c b cb (lower b lt) oc ob inside;
-    tested = λ p a lt e. loop-of p lt (and_parts (not (eqb (p + 1) (length rows))) (is_some (loop_among (upto p) (held p))) (nests-as p (Control (control.Test a)) lt e)).1 (leads-as p (Control (control.Test a)) lt e);
-    left = λ p lt e. loop-of p lt (and_parts (not (eqb (p + 1) (length rows))) (is_some (loop_among (upto p) (held p))) (nests-as p (Control control.Break) lt e)).1 (leads-as p (Control control.Break) lt e);
+    tested = λ p a lt e. loop_of p lt (and_parts (not (eqb (p + 1) (length rows))) (is_some (loop_among (upto p) (held p))) (nests_as p (Control (control.Test a)) lt e)).1 (leads_as p (Control (control.Test a)) lt e);
+    left = λ p lt e. loop_of p lt (and_parts (not (eqb (p + 1) (length rows))) (is_some (loop_among (upto p) (held p))) (nests_as p (Control control.Break) lt e)).1 (leads_as p (Control control.Break) lt e);
     resumed = λ p lt e.
-        let s = some_of (loop_among (upto p) (held p)) (and_parts (not (eqb (p + 1) (length rows))) (is_some (loop_among (upto p) (held p))) (nests-as p (Control control.Continue) lt e)).1 in
-        let t = leads-as p (Control control.Continue) lt e ∙ ap row_of s.1 in
+        let s = some_of (loop_among (upto p) (held p)) (and_parts (not (eqb (p + 1) (length rows))) (is_some (loop_among (upto p) (held p))) (nests_as p (Control control.Continue) lt e)).1 in
+        let t = leads_as p (Control control.Continue) lt e ∙ ap row_of s.1 in
         subst (λ (b : ℕ). Looping lines b p) (sym t) (looping p s.0 lt s.1);
     ended = λ p b lt e.
-        let k = closed_by (upto p) p b (held p) (and_parts (not (eqb (p + 1) (length rows))) (closes_block (upto p) p b (held p)) (nests-as p (Control (control.End b)) lt e)).1 in
+        let k = closed_by (upto p) p b (held p) (and_parts (not (eqb (p + 1) (length rows))) (closes_block (upto p) p b (held p)) (nests_as p (Control (control.End b)) lt e)).1 in
         let bp = falling_member p b (held p) (blocks_falling (upto p) p) k.0 in
         let same = blocked.front w result rows lines ok p b bp in (
           ap (λ (x : Line). opener x.instruction) (sym same) ∙ blocks_open (upto p) b p k.0,
           bp,
           ap (λ (x : Line). closer x.instruction) (sym same) ∙ k.1,
-          leads-as p (Control (control.End b)) lt e,
+          leads_as p (Control (control.End b)) lt e,
         );
     final = λ p e. let l = ok.long in last_finishes (upto p) p (held p) (eqb (p + 1) (length rows)) (says lines p) (eq-eqb (p + 1) (length rows) (omega arith)) (passed p (omega arith)).nested;
   }

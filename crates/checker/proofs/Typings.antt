@@ -83,30 +83,30 @@ module _ (w : ℕ) (result : Typing) (T T' : ℕ → Typing) (f g : ℕ → Bool
   make_same (make.Resize a r s) h n = let x = one a [] h in λ i. resize_rule w r s (x i)
   make_same make.State h n = refl
 
-  start-same : (t : Typing) (v : Start) → all f (start_operand v) ≡ true → start_rule w result T t v ≡ start_rule w result T' t v
-  start-same t Nulls h = refl
-  start-same t (Value a) h = let x = one a [] h in λ i. declare_rule w t (x i)
+  start_same : (t : Typing) (v : Start) → all f (start_operand v) ≡ true → start_rule w result T t v ≡ start_rule w result T' t v
+  start_same t Nulls h = refl
+  start_same t (Value a) h = let x = one a [] h in λ i. declare_rule w t (x i)
 
-  change-same : (s : Changes) → all f (change_operands s) ≡ true → all g (change_names s) ≡ true → change_rule w result T s ≡ change_rule w result T' s
-  change-same (change.Declare k x r s v) h n = start-same (typing k x r s) v h
-  change-same (change.Assign v a) h n = let x = var v [] n in let y = one a [] h in λ i. assign_rule (x i) (y i)
-  change-same (change.Store v b c) h n = let x = var v [] n in let y = one b (c ∷ []) h in let z = two b c [] h in λ i. store_rule (x i) (y i) (z i)
-  change-same (change.StoreTwo v b c d) h n = let x = var v [] n in let y = one b (c ∷ d ∷ []) h in let z = two b c (d ∷ []) h in let u = three b c d [] h in λ i. store_two_rule (x i) (y i) (z i) (u i)
-  change-same (change.Print a) h n = let x = one a [] h in λ i. unless (flat (x i)) Unfit nothing
-  change-same (change.Read v) h n = let x = var v [] n in λ i. unless (is Scalar (x i)) Unfit nothing
-  change-same (change.Return a) h n = let x = one a [] h in λ i. return_rule result (x i)
+  change_same : (s : Changes) → all f (change_operands s) ≡ true → all g (change_names s) ≡ true → change_rule w result T s ≡ change_rule w result T' s
+  change_same (change.Declare k x r s v) h n = start_same (typing k x r s) v h
+  change_same (change.Assign v a) h n = let x = var v [] n in let y = one a [] h in λ i. assign_rule (x i) (y i)
+  change_same (change.Store v b c) h n = let x = var v [] n in let y = one b (c ∷ []) h in let z = two b c [] h in λ i. store_rule (x i) (y i) (z i)
+  change_same (change.StoreTwo v b c d) h n = let x = var v [] n in let y = one b (c ∷ d ∷ []) h in let z = two b c (d ∷ []) h in let u = three b c d [] h in λ i. store_two_rule (x i) (y i) (z i) (u i)
+  change_same (change.Print a) h n = let x = one a [] h in λ i. unless (flat (x i)) Unfit nothing
+  change_same (change.Read v) h n = let x = var v [] n in λ i. unless (is Scalar (x i)) Unfit nothing
+  change_same (change.Return a) h n = let x = one a [] h in λ i. return_rule result (x i)
 
-  turn-same : (t : Turn) → all f (turn_operands t) ≡ true → turn_rule w result T t ≡ turn_rule w result T' t
-  turn-same (control.If a b) h = let x = one a [] h in λ i. condition_rule (x i)
-  turn-same (control.Else b) h = refl
-  turn-same (control.Loop b) h = refl
-  turn-same (control.Each a b) h = let x = one a [] h in λ i. each_rule (x i)
-  turn-same (control.Test a) h = let x = one a [] h in λ i. condition_rule (x i)
-  turn-same control.Break h = refl
-  turn-same control.Continue h = refl
-  turn-same (control.End b) h = refl
+  turn_same : (t : Turn) → all f (turn_operands t) ≡ true → turn_rule w result T t ≡ turn_rule w result T' t
+  turn_same (control.If a b) h = let x = one a [] h in λ i. condition_rule (x i)
+  turn_same (control.Else b) h = refl
+  turn_same (control.Loop b) h = refl
+  turn_same (control.Each a b) h = let x = one a [] h in λ i. each_rule (x i)
+  turn_same (control.Test a) h = let x = one a [] h in λ i. condition_rule (x i)
+  turn_same control.Break h = refl
+  turn_same control.Continue h = refl
+  turn_same (control.End b) h = refl
 
   pub typed_same : (x : Instruction) → all f (operands x) ≡ true → all g (names x) ≡ true → typed w result T x ≡ typed w result T' x
   typed_same (Expression e) h n = make_same e h n
-  typed_same (Change s) h n = change-same s h n
-  typed_same (Control t) h n = turn-same t h
+  typed_same (Change s) h n = change_same s h n
+  typed_same (Control t) h n = turn_same t h

@@ -28,13 +28,13 @@ fn next_start(i: Instruction, start: usize, p: usize) -> usize
 fn check_rows(
     lines: &mut Vec<Line>,
     width: u16,
-    res: Typing,
+    result_type: Typing,
     rows: &[Row],
 ) -> Result<(), (Refusal, usize)>
     requires few { length rows.now ≤ 512 }
     requires bare { vec_len lines.old ≡ 0 }
     requires space { length rows.now ≤ vec_capacity lines.old }
-    ensures verdict { MatchResult result (λ _. Accepted width res rows.now lines.new.items) (λ e. Faulty width res rows.now lines.new.items e.0 e.1) }
+    ensures verdict { MatchResult result (λ _. Accepted width result_type rows.now lines.new.items) (λ e. Faulty width result_type rows.now lines.new.items e.0 e.1) }
     ensures capacity { vec_capacity lines.new ≡ vec_capacity lines.old }
 {
     let mut blocks = Blocks::new();
@@ -43,7 +43,7 @@ fn check_rows(
         let last = p + 1 == rows.len();
         match judge_row(
             width,
-            res,
+            result_type,
             last,
             lines.as_slice(),
             p,

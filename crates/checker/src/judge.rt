@@ -17,11 +17,11 @@ use types::{Kind, Shape, Size, Typing};
 
 fn judge_expression(
     width: u16,
-    res: Typing,
+    result_type: Typing,
     lines: &[Line],
     e: Expression,
 ) -> Result<Option<Typing>, Refusal>
-    ensures { result ≡ make_rule width res (typing_at lines.now) e }
+    ensures { result ≡ make_rule width result_type (typing_at lines.now) e }
 {
     match e {
         Expression::Literal(k, _) => Ok(Some(Typing::scalar(k))),
@@ -59,12 +59,12 @@ fn judge_expression(
 
 fn judge_declare(
     width: u16,
-    res: Typing,
+    result_type: Typing,
     lines: &[Line],
     t: Typing,
     start: Start,
 ) -> Result<Option<Typing>, Refusal>
-    ensures { result ≡ start_rule width res (typing_at lines.now) t start }
+    ensures { result ≡ start_rule width result_type (typing_at lines.now) t start }
 {
     match start {
         Start::Nulls => statements::declare_nulls(width, t),
@@ -74,16 +74,16 @@ fn judge_declare(
 
 fn judge_change(
     width: u16,
-    res: Typing,
+    result_type: Typing,
     lines: &[Line],
     s: Change,
 ) -> Result<Option<Typing>, Refusal>
-    ensures { result ≡ change_rule width res (typing_at lines.now) s }
+    ensures { result ≡ change_rule width result_type (typing_at lines.now) s }
 {
     match s {
         Change::Declare(kind, shape, r, s, start) => judge_declare(
             width,
-            res,
+            result_type,
             lines,
             Typing { kind, shape, r, s },
             start,
@@ -110,17 +110,17 @@ fn judge_change(
         } else {
             Err(Refusal::Unfit)
         },
-        Change::Return(a) => statements::give_back(res, typing_at(lines, a)),
+        Change::Return(a) => statements::give_back(result_type, typing_at(lines, a)),
     }
 }
 
 fn judge_control(
     width: u16,
-    res: Typing,
+    result_type: Typing,
     lines: &[Line],
     t: Control,
 ) -> Result<Option<Typing>, Refusal>
-    ensures { result ≡ turn_rule width res (typing_at lines.now) t }
+    ensures { result ≡ turn_rule width result_type (typing_at lines.now) t }
 {
     match t {
         Control::If(a, _) => statements::condition(typing_at(lines, a)),
@@ -137,23 +137,23 @@ fn judge_control(
 /// Kinds, shapes and sizes of any row.
 fn judge_type(
     width: u16,
-    res: Typing,
+    result_type: Typing,
     lines: &[Line],
     i: Instruction,
 ) -> Result<Option<Typing>, Refusal>
-    ensures { result ≡ typed width res (typing_at lines.now) i }
+    ensures { result ≡ typed width result_type (typing_at lines.now) i }
 {
     match i {
-        Instruction::Expression(e) => judge_expression(width, res, lines, e),
-        Instruction::Change(s) => judge_change(width, res, lines, s),
-        Instruction::Control(t) => judge_control(width, res, lines, t),
+        Instruction::Expression(e) => judge_expression(width, result_type, lines, e),
+        Instruction::Change(s) => judge_change(width, result_type, lines, s),
+        Instruction::Control(t) => judge_control(width, result_type, lines, t),
     }
 }
 
 /// The rules in their order: operands, blocks, scope, then kinds, shapes and sizes.
 fn judge_instruction(
     width: u16,
-    res: Typing,
+    result_type: Typing,
     last: bool,
     lines: &[Line],
     p: usize,
@@ -161,7 +161,7 @@ fn judge_instruction(
     blocks: &Blocks,
     i: Instruction,
 ) -> Result<Option<Typing>, Refusal>
-    ensures { result ≡ ruled width res last lines.now p (between start p) (open_rows blocks.now) i }
+    ensures { result ≡ ruled width result_type last lines.now p (between start p) (open_rows blocks.now) i }
 {
     if !is_placed(start, p, i) {
         return Err(Refusal::Operand);
@@ -172,14 +172,14 @@ fn judge_instruction(
     if !is_scoped(lines, blocks, p, i) {
         return Err(Refusal::Scope);
     }
-    judge_type(width, res, lines, i)
+    judge_type(width, result_type, lines, i)
 }
 
 /// The line of row p, or the first rule that it breaks: from its own fields and the lines before it. Only
 /// expression rows stand from `start` on, and `blocks` are those open before p.
 pub fn judge_row(
     width: u16,
-    res: Typing,
+    result_type: Typing,
     last: bool,
     lines: &[Line],
     p: usize,
@@ -187,11 +187,11 @@ pub fn judge_row(
     blocks: &Blocks,
     x: Row,
 ) -> Result<Line, Refusal>
-    ensures { result ≡ judged_as width res last lines.now p (between start p) (open_rows blocks.now) (form x) }
+    ensures { result ≡ judged_as width result_type last lines.now p (between start p) (open_rows blocks.now) (form x) }
 {
     match decode(x) {
         None => Err(Refusal::Form),
-        Some(i) => match judge_instruction(width, res, last, lines, p, start, blocks, i) {
+        Some(i) => match judge_instruction(width, result_type, last, lines, p, start, blocks, i) {
             Err(e) => Err(e),
             Ok(typing) => Ok(Line {
                 instruction: i,

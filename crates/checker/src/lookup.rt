@@ -1,6 +1,6 @@
 //! What earlier rows mean for a row.
 ghost use Rattle.std.specs.Prelude.{◌≡◌, ℕ, ◌+◌, ◌<◌, ◌≤◌, ◌&&◌, ◌||◌, length};
-ghost use Rattle.checker.specs.Blocks.{at, typing_of, typing_at, makes, start_operand, make_operands, change_operands, turn_operands, operands, all, after, turned, innermost as innermostOf, member, loops, turn_loops, closer, turn_closer, branches, turn_branches, loop_among, closes_if, closes_block, turn_nests, returns as returnsFrom, nests, change_declares, declares, turn_ranges, ranges, still_in, in_scope, in_each, make_scoped, change_scoped, scoped, row_of, turn_target, target_of};
+ghost use Rattle.checker.specs.Blocks.{at, typing_of, typing_at, makes, start_operand, make_operands, change_operands, turn_operands, operands, all, after, turned, innermost as innermost_of, member, loops, turn_loops, closer, turn_closer, branches, turn_branches, loop_among, closes_if, closes_block, turn_nests, returns as returns_from, nests, change_declares, declares, turn_ranges, ranges, still_in, in_scope, in_each, make_scoped, change_scoped, scoped, row_of, turn_target, target_of};
 ghost use Rattle.checker.specs.Judge.{between};
 ghost use Rattle.checker.specs.Stack.{open_rows};
 
@@ -213,7 +213,7 @@ fn is_control_nested(lines: &[Line], blocks: &Blocks, p: usize, t: Control) -> b
 }
 
 fn is_return(s: Change) -> bool
-    ensures { result ≡ returnsFrom s }
+    ensures { result ≡ returns_from s }
 {
     match s {
         Change::Return(_) => true,

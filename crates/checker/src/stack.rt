@@ -1,6 +1,6 @@
 //! The blocks that are open at a row.
 ghost use Rattle.std.specs.Prelude.{◌≡◌, ◌<◌, ◌≤◌, true, [], ◌∷◌, length};
-ghost use Rattle.checker.specs.Blocks.{outer, turned, after, innermost as innermostOf, member, loop_among, closes_if, closes_block};
+ghost use Rattle.checker.specs.Blocks.{outer, turned, after, innermost as innermost_of, member, loop_among, closes_if, closes_block};
 ghost use Rattle.checker.specs.Stack.{open_rows, turn_fits, fits};
 
 use crate::opened::Blocks;
@@ -45,7 +45,7 @@ impl Blocks {
 
     /// The opener of the innermost block.
     pub fn innermost(&self) -> Option<u16>
-        ensures { result ≡ innermostOf (open_rows self.now) }
+        ensures { result ≡ innermost_of (open_rows self.now) }
     {
         if self.depth == 0 {
             None

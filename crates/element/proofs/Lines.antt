@@ -75,13 +75,13 @@ module _ {X : Type 0} (null : X) where
   pub length_resized : (r s : ℕ) (rows : List (List X)) → length (resized_rows null r s rows) ≡ r
   length_resized r s rows = length-map-range_with_len (λ k. padded null s (get_or rows k [])) 0 r
 
-  pub get_d_resized : (r s : ℕ) (rows : List (List X)) (k : ℕ) → k < r → get_or (resized_rows null r s rows) k [] ≡ padded null s (get_or rows k [])
-  get_d_resized r s rows k h = get_or-map-range_with_len (λ k. padded null s (get_or rows k [])) 0 r k k [] h (omega arith)
+  pub get_or_resized : (r s : ℕ) (rows : List (List X)) (k : ℕ) → k < r → get_or (resized_rows null r s rows) k [] ≡ padded null s (get_or rows k [])
+  get_or_resized r s rows k h = get_or-map-range_with_len (λ k. padded null s (get_or rows k [])) 0 r k k [] h (omega arith)
 
   pub wide_resized : (r s : ℕ) (rows : List (List X)) → Wide s (resized_rows null r s rows)
   wide_resized r s rows k h =
       let l : k < r = omega (arith, length_resized r s rows) in
-      ap length (get_d_resized r s rows k l) ∙ length_padded null s (get_or rows k [])
+      ap length (get_or_resized r s rows k l) ∙ length_padded null s (get_or rows k [])
 
   pub length_resized_all : (r s : ℕ) (rows : List (List X)) → length (joined (resized_rows null r s rows)) ≡ r * s
   length_resized_all r s rows = length_joined_all s (resized_rows null r s rows) (wide_resized r s rows) ∙ ap (λ (n : ℕ). n * s) (length_resized r s rows)
@@ -95,7 +95,7 @@ module _ {X : Type 0} (null : X) where
       let same : cells S from (r * s) ≡ cells T from (r * s) = ap (λ (xs : List X). cells xs from (r * s)) s' ∙ cells_below T (joined (take k ls)) to from (r * s) below (omega arith) in
       let l : length ls ≡ rows = length_resized rows columns (rows_of r s (cells T from (r * s))) in
       line_more T S U to columns k ls (wide_resized rows columns (rows_of r s (cells T from (r * s)))) (omega arith) (omega arith) s'
-      (u ∙ ap (λ (xs : List X). put S (to + k * columns) (padded null columns (get_or (rows_of r s xs) k []))) same ∙ ap (put S (to + k * columns)) (sym (get_d_resized rows columns (rows_of r s (cells T from (r * s))) k h)))
+      (u ∙ ap (λ (xs : List X). put S (to + k * columns) (padded null columns (get_or (rows_of r s xs) k []))) same ∙ ap (put S (to + k * columns)) (sym (get_or_resized rows columns (rows_of r s (cells T from (r * s))) k h)))
 
   pub resized_all : (T S : List X) (to r s k : ℕ) (rows : List (List X)) → r ≤ k → S ≡ put T to (joined (take k (resized_rows null r s rows))) → S ≡ put T to (resized null r s rows)
   resized_all T S to r s k rows h e = e ∙ ap (λ (ls : List (List X)). put T to (joined ls)) (take_all k (resized_rows null r s rows) (omega (arith, length_resized r s rows)))

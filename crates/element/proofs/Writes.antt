@@ -51,15 +51,15 @@ module _ {X : Type 0} where
   pub length_cells : (T : List X) (at n : ℕ) → at + n ≤ length T → length (cells T at n) ≡ n
   length_cells T at n h = length-take-le n (drop at T) (simp length-drop (omega arith))
 
-  pub get_d_cells : (T : List X) (at n k : ℕ) (d : X) → k < n → get_or (cells T at n) k d ≡ get_or T (at + k) d
-  get_d_cells T at n k d h = get_or-take n (drop at T) k d h ∙ get_or-drop at T k d
+  pub get_or_cells : (T : List X) (at n k : ℕ) (d : X) → k < n → get_or (cells T at n) k d ≡ get_or T (at + k) d
+  get_or_cells T at n k d h = get_or-take n (drop at T) k d h ∙ get_or-drop at T k d
 
   pub length_padded : (blank : X) (n : ℕ) (xs : List X) → length (padded blank n xs) ≡ n
   length_padded blank n xs = simp (length-append, length-take, length-replicate) (omega arith)
 
   -- what stands past the end of xs is `blank`
-  pub get_d_padded : (blank : X) (n : ℕ) (xs : List X) (k : ℕ) (d : X) → k < n → get_or (padded blank n xs) k d ≡ get_or xs k blank
-  get_d_padded blank n xs k d h =
+  pub get_or_padded : (blank : X) (n : ℕ) (xs : List X) (k : ℕ) (d : X) → k < n → get_or (padded blank n xs) k d ≡ get_or xs k blank
+  get_or_padded blank n xs k d h =
       ⊎_elim
       (λ (l : k < length xs). let m : k < length (take n xs) = simp length-take (omega arith) in get_or_append_left (take n xs) _ d k m ∙ get_or-take n xs k d h ∙ get_or_default xs k d blank l)
       (λ (l : length xs ≤ k). let m : length (take n xs) ≡ length xs = simp length-take (omega arith) in

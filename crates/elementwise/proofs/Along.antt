@@ -3,7 +3,7 @@ use Rattle.std.proofs.Common.{◌≡◌, ℕ, zero, suc, ◌+◌, ◌<◌, ◌�
 use Rattle.std.proofs.lemmas.List.{get_or-map, length-map, length-replicate, get_or-replicate, get_or_default, same_lists, get_or-take, length-take-le}
 use Rattle.std.proofs.lemmas.List.FromFn.{get_or-map-range_with_len, length-map-range_with_len}
 use Rattle.element.specs.Cells.{put, cells, tabulate}
-use Rattle.element.proofs.Writes.{length_cells, get_d_cells}
+use Rattle.element.proofs.Writes.{length_cells, get_or_cells}
 use Rattle.elementwise.specs.declared.operands.Operand.{Operand}
 use Rattle.elementwise.specs.Operands.{place_of, end_of, along}
 use Rattle.elementwise.specs.Results.{map2}
@@ -14,11 +14,11 @@ module _ {X Y Z : Type 0} (f : X → Y → Z) where
   length_map2 (x ∷ xs) [] e = omega arith
   length_map2 (x ∷ xs) (y ∷ ys) e = ap suc (length_map2 xs ys (omega arith))
 
-  pub get_d_map2 : (xs : List X) (ys : List Y) (k : ℕ) (d : X) (e : Y) (z : Z) → k < length xs → k < length ys → get_or (map2 f xs ys) k z ≡ f (get_or xs k d) (get_or ys k e)
-  get_d_map2 [] ys k d e z h i = absurd (omega arith)
-  get_d_map2 (x ∷ xs) [] k d e z h i = absurd (omega arith)
-  get_d_map2 (x ∷ xs) (y ∷ ys) zero d e z h i = refl
-  get_d_map2 (x ∷ xs) (y ∷ ys) (suc k) d e z h i = get_d_map2 xs ys k d e z (omega arith) (omega arith)
+  pub get_or_map2 : (xs : List X) (ys : List Y) (k : ℕ) (d : X) (e : Y) (z : Z) → k < length xs → k < length ys → get_or (map2 f xs ys) k z ≡ f (get_or xs k d) (get_or ys k e)
+  get_or_map2 [] ys k d e z h i = absurd (omega arith)
+  get_or_map2 (x ∷ xs) [] k d e z h i = absurd (omega arith)
+  get_or_map2 (x ∷ xs) (y ∷ ys) zero d e z h i = refl
+  get_or_map2 (x ∷ xs) (y ∷ ys) (suc k) d e z h i = get_or_map2 xs ys k d e z (omega arith) (omega arith)
 
 pub place_below : (o : Operand) (n k to : ℕ) → k < n → end_of o n ≤ to → place_of o k < to
 place_below o n k to h l =
@@ -33,12 +33,12 @@ module _ {X : Type 0} (null : X) (T : List X) (o : Operand) (n : ℕ) (ends : en
       ]
       ends
 
-  pub get_d_along : (k : ℕ) (d : X) → k < n → get_or (along null T o n) k d ≡ get_or T (place_of o k) null
-  get_d_along k d l =
+  pub get_or_along : (k : ℕ) (d : X) → k < n → get_or (along null T o n) k d ≡ get_or T (place_of o k) null
+  get_or_along k d l =
       elim o.spread as
       (λ b. cond b (o.at + 1) (o.at + n) ≤ length T → get_or (cond b (replicate n (get_or T o.at null)) (cells T o.at n)) k d ≡ get_or T (cond b o.at (o.at + k)) null) [
         | true ↦ (λ m. get_or-replicate n k _ d l)
-        | false ↦ (λ m. get_d_cells T o.at n k d l ∙ get_or_default T (o.at + k) d null (omega arith))
+        | false ↦ (λ m. get_or_cells T o.at n k d l ∙ get_or_default T (o.at + k) d null (omega arith))
       ]
       ends
 
@@ -64,9 +64,9 @@ module _ {X Z : Type 0} (null : X) (T U : List X) (to n : ℕ) (within : to ≤ 
       (λ k d h.
       let h' : k < n = omega arith in
       get_or-map-range_with_len F 0 n k k d h' (omega arith)
-      ∙ ap (λ (x : X). f x (get_or U (place_of b k) null)) (read null T U to part _ (place_below a n k to h' left) ∙ sym (get_d_along null T a n ea k null h'))
-      ∙ ap (f (get_or (along null T a n) k null)) (read null T U to part _ (place_below b n k to h' right) ∙ sym (get_d_along null T b n eb k null h'))
-      ∙ sym (get_d_map2 f _ _ k null null d (omega arith) (omega arith)))
+      ∙ ap (λ (x : X). f x (get_or U (place_of b k) null)) (read null T U to part _ (place_below a n k to h' left) ∙ sym (get_or_along null T a n ea k null h'))
+      ∙ ap (f (get_or (along null T a n) k null)) (read null T U to part _ (place_below b n k to h' right) ∙ sym (get_or_along null T b n eb k null h'))
+      ∙ sym (get_or_map2 f _ _ k null null d (omega arith) (omega arith)))
 
   -- a function of one element along a run of cells
   pub along_one : (f : X → Z) (at : ℕ) → at + n ≤ to → tabulate n (λ k. f (get_or U (at + k) null)) ≡ map f (cells T at n)
@@ -78,7 +78,7 @@ module _ {X Z : Type 0} (null : X) (T U : List X) (to n : ℕ) (within : to ≤ 
       (λ k d i.
       let i' : k < n = omega arith in
       get_or-map-range_with_len F 0 n k k d i' (omega arith)
-      ∙ ap f (read null T U to part (at + k) (omega arith) ∙ sym (get_d_cells T at n k null i'))
+      ∙ ap f (read null T U to part (at + k) (omega arith) ∙ sym (get_or_cells T at n k null i'))
       ∙ sym (get_or-map f (cells T at n) k null d (omega arith)))
 
 -- the same cells, written another way

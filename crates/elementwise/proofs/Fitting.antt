@@ -18,14 +18,14 @@ pub bounded_within : (z : ℤ) → Within z → bounded z ≡ Ok z
 bounded_within z h = grind (arith, nat_tests)
 
 module _ {X : Type 0} (f : ℕ → Result X ArithmeticFault) (g : ℕ → X) where
-  collected-from : (i k n : ℕ) → ((j : ℕ) → j < i + n → f j ≡ Ok (g j)) → collected k (map f (range_with_len i n)) ≡ Ok (map g (range_with_len i n))
-  collected-from i k zero p = refl
-  collected-from i k (suc n) p =
-      ap (λ r. collected k (r ∷ map f (range_with_len (i + 1) n))) (p i (omega arith)) ∙ ap (before (g i)) (collected-from (i + 1) (k + 1) n (λ j h. p j (omega arith)))
+  collected_from : (i k n : ℕ) → ((j : ℕ) → j < i + n → f j ≡ Ok (g j)) → collected k (map f (range_with_len i n)) ≡ Ok (map g (range_with_len i n))
+  collected_from i k zero p = refl
+  collected_from i k (suc n) p =
+      ap (λ r. collected k (r ∷ map f (range_with_len (i + 1) n))) (p i (omega arith)) ∙ ap (before (g i)) (collected_from (i + 1) (k + 1) n (λ j h. p j (omega arith)))
 
   -- where each of n results is a value, those values are collected
   pub collected_values : (n : ℕ) → ((k : ℕ) → k < n → f k ≡ Ok (g k)) → collected 1 (tabulate n f) ≡ Ok (tabulate n g)
-  collected_values n p = collected-from 0 1 n (λ j h. p j (omega arith))
+  collected_values n p = collected_from 0 1 n (λ j h. p j (omega arith))
 
 module _ (T : List ℤ) (to n : ℕ) (within : to ≤ length T) (value : ℤ → ℤ → ℤ) (a b : Operand) (left : end_of a n ≤ to) (right : end_of b n ≤ to) where
   -- a value that fits over the table fits over the cells below `to`

@@ -24,18 +24,18 @@ module _ {X : Type 0} where
       let h' : k < n = omega arith in
       get_or-map-range_with_len f 0 n k k d h' (omega arith) ∙ e k h' ∙ sym (get_or-map-range_with_len g 0 n k k d h' (omega arith)))
 
-  tabulate-suc : (n : ℕ) (f : ℕ → X) → tabulate (suc n) f ≡ tabulate n f ++ f n ∷ []
-  tabulate-suc n f = ap (λ (k : ℕ). tabulate k f) (sym (add-one n)) ∙ map-range_with_len_more f 0 n n (omega arith)
+  tabulate_suc : (n : ℕ) (f : ℕ → X) → tabulate (suc n) f ≡ tabulate n f ++ f n ∷ []
+  tabulate_suc n f = ap (λ (k : ℕ). tabulate k f) (sym (add-one n)) ∙ map-range_with_len_more f 0 n n (omega arith)
 
-  tabulate-add : (m n : ℕ) (f : ℕ → X) → tabulate (m + n) f ≡ tabulate m f ++ tabulate n (λ k. f (m + k))
-  tabulate-add m zero f = ap (λ (k : ℕ). tabulate k f) (add-zero m) ∙ sym (append-nil (tabulate m f))
-  tabulate-add m (suc n) f =
+  tabulate_add : (m n : ℕ) (f : ℕ → X) → tabulate (m + n) f ≡ tabulate m f ++ tabulate n (λ k. f (m + k))
+  tabulate_add m zero f = ap (λ (k : ℕ). tabulate k f) (add-zero m) ∙ sym (append-nil (tabulate m f))
+  tabulate_add m (suc n) f =
       let e : m + suc n ≡ suc (m + n) = omega arith in
       ap (λ (k : ℕ). tabulate k f) e
-      ∙ tabulate-suc (m + n) f
-      ∙ ap (λ (xs : List X). xs ++ f (m + n) ∷ []) (tabulate-add m n f)
+      ∙ tabulate_suc (m + n) f
+      ∙ ap (λ (xs : List X). xs ++ f (m + n) ∷ []) (tabulate_add m n f)
       ∙ append_assoc (tabulate m f) (tabulate n (λ k. f (m + k))) (f (m + n) ∷ [])
-      ∙ ap (λ (xs : List X). tabulate m f ++ xs) (sym (tabulate-suc n (λ k. f (m + k))))
+      ∙ ap (λ (xs : List X). tabulate m f ++ xs) (sym (tabulate_suc n (λ k. f (m + k))))
 
   joined_push : (xss : List (List X)) (ys : List X) → joined (xss ++ ys ∷ []) ≡ joined xss ++ ys
   joined_push [] ys = append-nil ys
@@ -49,7 +49,7 @@ grid {X} f (suc r) s =
     let G = λ (i : ℕ). tabulate s (f i) in
     let row : tabulate s (λ k. F (r * s + k)) ≡ G r = tabulate_same s (λ k. F (r * s + k)) (f r) (λ k h. ap (λ (i : ℕ). f i ((r * s + k) % s)) (div-mul-add r s k h) ∙ ap (f r) (mod-mul-add r s k h)) in
     ap (λ (n : ℕ). tabulate n F) (suc-mul r s)
-    ∙ tabulate-add (r * s) s F
+    ∙ tabulate_add (r * s) s F
     ∙ ap (λ (xs : List X). xs ++ tabulate s (λ k. F (r * s + k))) (grid f r s)
     ∙ ap (λ (xs : List X). joined (tabulate r G) ++ xs) row
-    ∙ sym (ap joined (tabulate-suc r G) ∙ joined_push (tabulate r G) (G r))
+    ∙ sym (ap joined (tabulate_suc r G) ∙ joined_push (tabulate r G) (G r))

@@ -6,7 +6,7 @@ use Rattle.std.proofs.lemmas.List.{same_lists, get_or_default, get_or-take, drop
 use Rattle.arithmetic.specs.declared.faults.ArithmeticFault.{ArithmeticFault}
 use Rattle.arithmetic.specs.Faults.{at_element}
 use Rattle.element.specs.Cells.{cells, tabulate, joined}
-use Rattle.element.proofs.Writes.{length_cells, get_d_cells, take_cells, drop_cells}
+use Rattle.element.proofs.Writes.{length_cells, get_or_cells, take_cells, drop_cells}
 use Rattle.elementwise.specs.Products.{dot, strided, row_at, column_at, products}
 use Rattle.elementwise.proofs.Grids.{row_below, tabulate_same, grid}
 
@@ -30,7 +30,7 @@ strided_one T b n h =
     get_or-map-range_with_len F 0 n k k d i' (omega arith)
     ∙ ap (λ (p : ℕ). get_or T p (pos 0)) (omega arith)
     ∙ get_or_default T (b + k) (pos 0) d (omega arith)
-    ∙ sym (get_d_cells T b n k d i'))
+    ∙ sym (get_or_cells T b n k d i'))
 
 pub dot_named : (T : List ℤ) (a b n : ℕ) (z : Result ℤ ArithmeticFault) → b + n ≤ length T → z ≡ dot (cells T a n) (strided T b 1 n) → result_map_both (λ z. z) (at_element 1) z ≡ result_map_both (λ z. z) (at_element 1) (dot (cells T a n) (cells T b n))
 dot_named T a b n z h e = ap (result_map_both (λ z. z) (at_element 1)) (e ∙ ap (dot (cells T a n)) (strided_one T b n h))
@@ -48,7 +48,7 @@ module _ (T : List ℤ) (to a b r m s : ℕ) (left : a + r * m ≤ to) (right : 
       let e : k * s + suc j ≤ m * s = row_below k m s (suc j) i h in
       get_or-take to T (b + j + k * s) (pos 0) (omega arith)
       ∙ ap (λ (p : ℕ). get_or T p (pos 0)) (omega arith)
-      ∙ sym (get_d_cells T b (m * s) (j + k * s) (pos 0) (omega arith)))
+      ∙ sym (get_or_cells T b (m * s) (j + k * s) (pos 0) (omega arith)))
 
   pub products_by_place : tabulate (r * s) (λ k. dot (cells (take to T) (a + k / s * m) m) (strided (take to T) (b + k % s) s m)) ≡ products r m s (cells T a (r * m)) (cells T b (m * s))
   products_by_place =

@@ -3,7 +3,7 @@ use Rattle.std.proofs.Common.{◌≡◌, ℕ, suc, ◌+◌, ◌*◌, ◌<◌, �
 use Rattle.std.proofs.lemmas.List.FromFn.{get_or-map-range_with_len, length-map-range_with_len}
 use Rattle.std.proofs.lemmas.List.{drop_all}
 use Rattle.element.specs.Cells.{cells}
-use Rattle.element.proofs.Writes.{length_cells, get_d_cells}
+use Rattle.element.proofs.Writes.{length_cells, get_or_cells}
 use Rattle.arithmetic.specs.declared.faults.ArithmeticFault.{ArithmeticFault}
 use Rattle.elementwise.specs.Products.{onward, with_product, summed, strided}
 
@@ -26,20 +26,20 @@ module _ (S : List ℤ) (a b stride n k : ℕ) (t : ℤ) (within : a + n ≤ len
       sym (ap (λ (zs : List ℤ). summed t zs (drop k (strided S b stride n))) (drop_all k (cells S a n) l))
 
   module _ (x y : ℤ) (h : k < n) (ex : x ≡ get_or S (a + k) (pos 0)) (ey : y ≡ get_or S (b + k * stride) (pos 0)) where
-    row-long : k < length (cells S a n)
-    row-long = omega (arith, length_cells S a n within)
+    row_long : k < length (cells S a n)
+    row_long = omega (arith, length_cells S a n within)
 
-    column-long : k < length (strided S b stride n)
-    column-long = omega (arith, length-map-range_with_len (λ (k : ℕ). get_or S (b + k * stride) (pos 0)) 0 n)
+    column_long : k < length (strided S b stride n)
+    column_long = omega (arith, length-map-range_with_len (λ (k : ℕ). get_or S (b + k * stride) (pos 0)) 0 n)
 
     row_at : x ≡ get_or (cells S a n) k (pos 0)
-    row_at = ex ∙ sym (get_d_cells S a n k (pos 0) h)
+    row_at = ex ∙ sym (get_or_cells S a n k (pos 0) h)
 
-    column-at : y ≡ get_or (strided S b stride n) k (pos 0)
-    column-at = ey ∙ sym (get_or-map-range_with_len (λ (k : ℕ). get_or S (b + k * stride) (pos 0)) 0 n k k (pos 0) h (omega arith))
+    column_at : y ≡ get_or (strided S b stride n) k (pos 0)
+    column_at = ey ∙ sym (get_or-map-range_with_len (λ (k : ℕ). get_or S (b + k * stride) (pos 0)) 0 n k k (pos 0) h (omega arith))
 
     pub inner_more : (u : ℤ) → Ok u ≡ with_product t x y → summed u (drop (k + 1) (cells S a n)) (drop (k + 1) (strided S b stride n)) ≡ summed t (drop k (cells S a n)) (drop k (strided S b stride n))
-    inner_more u e = summed_more (cells S a n) (strided S b stride n) k x y t row-long column-long row_at column-at u e
+    inner_more u e = summed_more (cells S a n) (strided S b stride n) k x y t row_long column_long row_at column_at u e
 
     pub inner_faults : (f : ArithmeticFault) → Err f ≡ with_product t x y → Err f ≡ summed t (drop k (cells S a n)) (drop k (strided S b stride n))
-    inner_faults f e = summed_faults (cells S a n) (strided S b stride n) k x y t row-long column-long row_at column-at f e
+    inner_faults f e = summed_faults (cells S a n) (strided S b stride n) k x y t row_long column_long row_at column_at f e

@@ -32,22 +32,22 @@ module _ (p : Place) (t : Tables) (a b : ℕ) (x y : Layout) (lx : lawful p.widt
   abbrev bounds : Bool
   bounds = alone Integer (known x) && alone Integer (known y)
 
-  low-cell : bounds ≡ true → first (value_from p.width t a x) ≡ get_or t.integers low (pos 0)
-  low-cell h = scalar_cell p.width t a x lx (and_parts (alone Integer (known x)) (alone Integer (known y)) h).0 ∙ ap (λ (m : ℕ). get_or t.integers m (pos 0)) (sym el)
+  low_cell : bounds ≡ true → first (value_from p.width t a x) ≡ get_or t.integers low (pos 0)
+  low_cell h = scalar_cell p.width t a x lx (and_parts (alone Integer (known x)) (alone Integer (known y)) h).0 ∙ ap (λ (m : ℕ). get_or t.integers m (pos 0)) (sym el)
 
-  high-cell : bounds ≡ true → first (value_from p.width t b y) ≡ get_or t.integers high (pos 0)
-  high-cell h = scalar_cell p.width t b y ly (and_parts (alone Integer (known x)) (alone Integer (known y)) h).1 ∙ ap (λ (m : ℕ). get_or t.integers m (pos 0)) (sym eh)
+  high_cell : bounds ≡ true → first (value_from p.width t b y) ≡ get_or t.integers high (pos 0)
+  high_cell h = scalar_cell p.width t b y ly (and_parts (alone Integer (known x)) (alone Integer (known y)) h).1 ∙ ap (λ (m : ℕ). get_or t.integers m (pos 0)) (sym eh)
 
   pub interval_guard : (r s : Bool) → r ≡ bounds → s ≡ le_z (get_or t.integers low (pos 0)) (get_or t.integers high (pos 0))
       → guards p r s None (layout_of Integer Interval 1 2) true ≡ guarded p (interval (value_from p.width t a x) (value_from p.width t b y))
   interval_guard r s er es =
       (λ i. guards p (er i) (es i) None (layout_of Integer Interval 1 2) true)
       ∙ guards_same p bounds _ _ None None (layout_of Integer Interval 1 2) (layout_of Integer Interval 1 2) true true
-      (λ h. λ i. guards p true (le_z (sym (low-cell h) i) (sym (high-cell h) i)) None (layout_of Integer Interval 1 2) true)
+      (λ h. λ i. guards p true (le_z (sym (low_cell h) i) (sym (high_cell h) i)) None (layout_of Integer Interval 1 2) true)
 
   pub interval_elements : (form : Layout) → Ok form ≡ guarded p (interval (value_from p.width t a x) (value_from p.width t b y)) → low < length t.integers → high < length t.integers
       → (interval (value_from p.width t a x) (value_from p.width t b y)).elements ≡ Ok (cells t.integers low 1 ++ cells t.integers high 1)
   interval_elements form g il ih =
       let h = (tests p 0 (λ t u. Unit {0}) t t (interval (value_from p.width t a x) (value_from p.width t b y)) form (sym g)).2 in
       let ok : List ℤ → Result (List ℤ) ElementFault = λ xs. Ok xs in
-      (λ i. ok (low-cell h i ∷ high-cell h i ∷ [])) ∙ sym (λ i. ok (cells_one t.integers low (pos 0) il i ++ cells_one t.integers high (pos 0) ih i))
+      (λ i. ok (low_cell h i ∷ high_cell h i ∷ [])) ∙ sym (λ i. ok (cells_one t.integers low (pos 0) il i ++ cells_one t.integers high (pos 0) ih i))

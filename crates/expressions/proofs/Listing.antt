@@ -9,7 +9,7 @@ use Rattle.types.specs.declared.kinds.Shape.TheVariants.{Scalar, Vector, Matrix,
 use Rattle.types.specs.Types.{same_kind, same_shape}
 use Rattle.types.specs.Typings.{is, of, alone, index}
 use Rattle.element.specs.Cells.{cells}
-use Rattle.element.proofs.Writes.{get_d_cells}
+use Rattle.element.proofs.Writes.{get_or_cells}
 use Rattle.picks.specs.declared.indices.Index.{Index}
 use Rattle.picks.specs.declared.indices.Index.TheVariants as list
 use Rattle.picks.specs.Indices.{spanned, between, index_count, indices_of, IndexBelow}
@@ -48,7 +48,7 @@ one_row f h t = go f.kind f.shape f.r f.s h t
 
 module _ (W : ℕ) (t : Tables) (a : ℕ) (x : Layout) where
   pub nth_integer : (n : ℕ) → of Integer (known x) ≡ true → n < area x → get_or (elements_of Integer (value_from W t a x)) n (pos 0) ≡ get_or t.integers (a * W + n) (pos 0)
-  nth_integer n kind lt = ap (λ (xs : List ℤ). get_or xs n (pos 0)) (as_cells Integer x.kind t (a * W) (area x) kind) ∙ get_d_cells t.integers (a * W) (area x) n (pos 0) lt
+  nth_integer n kind lt = ap (λ (xs : List ℤ). get_or xs n (pos 0)) (as_cells Integer x.kind t (a * W) (area x) kind) ∙ get_or_cells t.integers (a * W) (area x) n (pos 0) lt
 
   pub first_cell : of Integer (known x) ≡ true → 0 < area x → first (value_from W t a x) ≡ get_or t.integers (a * W) (pos 0)
   first_cell kind lt = nth_integer 0 kind lt ∙ ap (λ (m : ℕ). get_or t.integers m (pos 0)) (add-zero (a * W))
@@ -57,14 +57,14 @@ module _ (W : ℕ) (t : Tables) (a : ℕ) (x : Layout) where
     abbrev two : is Interval (known x) ≡ true → (same_kind Integer x.kind ≡ true) × (x.r ≡ 1) × (x.s ≡ 2)
     two s = interval_two x (lawful_fixed W x law) s
 
-    two-area : is Interval (known x) ≡ true → area x ≡ 2
-    two-area s = let b = two s in λ i. b.1 i * b.2 i
+    two_area : is Interval (known x) ≡ true → area x ≡ 2
+    two_area s = let b = two s in λ i. b.1 i * b.2 i
 
     low : is Interval (known x) ≡ true → first (value_from W t a x) ≡ get_or t.integers (a * W) (pos 0)
-    low s = first_cell (two s).0 (let e = two-area s in omega (arith, e))
+    low s = first_cell (two s).0 (let e = two_area s in omega (arith, e))
 
     high : is Interval (known x) ≡ true → last (value_from W t a x) ≡ get_or t.integers (a * W + 1) (pos 0)
-    high s = nth_integer 1 (two s).0 (let e = two-area s in omega (arith, e))
+    high s = nth_integer 1 (two s).0 (let e = two_area s in omega (arith, e))
 
     pub list_count : count (value_from W t a x) ≡ index_count (list_at W t.integers a x)
     list_count = by (is Interval (known x)) low high

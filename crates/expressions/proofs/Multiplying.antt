@@ -46,13 +46,13 @@ module _ (p : Place) (t : Tables) (a b : ℕ) (x y form : Layout) (h : Ok form �
       let two = and_parts (of Integer (known y)) ((v && is Vector (known y)) || (is Matrix (known x) && is Matrix (known y))) one.1 in
       (one.0, two.0, two.1)
 
-  both-vectors : (v w m n : Bool) → ((v && w) || (m && n)) ≡ true → v ≡ true → (v ≡ true → m ≡ false) → w ≡ true
-  both-vectors true true m n h e off = refl
-  both-vectors true false m n h e off = let z = off refl in never (sym (ap (λ (q : Bool). q && n) z) ∙ h)
-  both-vectors false w m n h e off = never e
+  both_vectors : (v w m n : Bool) → ((v && w) || (m && n)) ≡ true → v ≡ true → (v ≡ true → m ≡ false) → w ≡ true
+  both_vectors true true m n h e off = refl
+  both_vectors true false m n h e off = let z = off refl in never (sym (ap (λ (q : Bool). q && n) z) ∙ h)
+  both_vectors false w m n h e off = never e
 
-  no-matrix : v ≡ true → is Matrix (known x) ≡ false
-  no-matrix e = go x.shape e
+  no_matrix : v ≡ true → is Matrix (known x) ≡ false
+  no_matrix e = go x.shape e
     where
       go : (s : Shape) → same_shape Vector s ≡ true → same_shape Matrix s ≡ false
       go Scalar e = never e
@@ -69,7 +69,7 @@ module _ (p : Place) (t : Tables) (a b : ℕ) (x y form : Layout) (h : Ok form �
       by false one = refl
 
   right_area : area y ≡ cond v x.s (x.s * y.s)
-  right_area = by v (λ e. vector_one y (lawful_fixed p.width y ly) (both-vectors v (is Vector (known y)) (is Matrix (known x)) (is Matrix (known y)) kinds.2 e no-matrix)) (eqb-true x.s (cond v y.s y.r) agree)
+  right_area = by v (λ e. vector_one y (lawful_fixed p.width y ly) (both_vectors v (is Vector (known y)) (is Matrix (known x)) (is Matrix (known y)) kinds.2 e no_matrix)) (eqb-true x.s (cond v y.s y.r) agree)
     where
       by : (v : Bool) → (v ≡ true → y.r ≡ 1) → x.s ≡ cond v y.s y.r → y.r * y.s ≡ cond v x.s (x.s * y.s)
       by true one e = ap (λ (r : ℕ). r * y.s) (one refl) ∙ one-mul y.s ∙ sym e

@@ -7,7 +7,7 @@ use Rattle.types.specs.declared.kinds.Shape.TheVariants.{Scalar}
 use Rattle.types.specs.Types.{same_kind}
 use Rattle.types.specs.Typings.{is, of, pairs, matches_spread}
 use Rattle.element.specs.Cells.{cells}
-use Rattle.element.proofs.Writes.{get_d_cells}
+use Rattle.element.proofs.Writes.{get_or_cells}
 use Rattle.elementwise.specs.declared.operands.Operand.{Operand}
 use Rattle.elementwise.specs.Operands.{end_of, along as along_table}
 use Rattle.meaning.specs.declared.layouts.Layout.{Layout}
@@ -31,7 +31,7 @@ along_cells W t k a x n law kind same =
     by : (s : Bool) → (s ≡ true → area x ≡ 1) → (s ≡ false → area x ≡ n)
         → cond s (replicate n (get_or (cells (table_of k t) (a * W) (area x)) 0 (null_of k))) (cells (table_of k t) (a * W) (area x)) ≡ cond s (replicate n (get_or (table_of k t) (a * W) (null_of k))) (cells (table_of k t) (a * W) n)
     by true one other =
-        ap (replicate n) (ap (λ (m : ℕ). get_or (cells (table_of k t) (a * W) m) 0 (null_of k)) (one refl) ∙ get_d_cells (table_of k t) (a * W) 1 0 (null_of k) (omega arith) ∙ ap (λ (m : ℕ). get_or (table_of k t) m (null_of k)) (add-zero (a * W)))
+        ap (replicate n) (ap (λ (m : ℕ). get_or (cells (table_of k t) (a * W) m) 0 (null_of k)) (one refl) ∙ get_or_cells (table_of k t) (a * W) 1 0 (null_of k) (omega arith) ∙ ap (λ (m : ℕ). get_or (table_of k t) m (null_of k)) (add-zero (a * W)))
     by false one other = ap (cells (table_of k t) (a * W)) (other refl)
 
 -- ---- sizes of two that match, a scalar spread

@@ -1,6 +1,6 @@
 //! Reading a row's numbers: the rule that looks at one row alone.
 ghost use Rattle.std.specs.Prelude.{◌≡◌};
-ghost use Rattle.instruction.specs.Forms.{literal_fits, start_of, literal as literalForm, empty_of, prefixed, infixed, measured, cast_to, declared as declaredForm, expression_of, statement_of, form};
+ghost use Rattle.instruction.specs.Forms.{literal_fits, start_of, literal as literal_form, empty_of, prefixed, infixed, measured, cast_to, declared as declared_form, expression_of, statement_of, form};
 
 use crate::fields::{fields_of, is_plain};
 use crate::instructions::{Change, Control, Expression, Infix, Instruction, Measure, Start};
@@ -30,7 +30,7 @@ fn start_of(a: u16) -> Start
 }
 
 fn literal(kind: Option<Kind>, n: i32) -> Option<Instruction>
-    ensures { result ≡ literalForm kind n }
+    ensures { result ≡ literal_form kind n }
 {
     match kind {
         None => None,
@@ -94,7 +94,7 @@ fn declare(
     s: Size,
     start: Start,
 ) -> Option<Instruction>
-    ensures { result ≡ declaredForm kind shape r s start }
+    ensures { result ≡ declared_form kind shape r s start }
 {
     match kind {
         None => None,

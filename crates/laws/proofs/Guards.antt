@@ -49,20 +49,20 @@ arithmetic_calm DivisorZero = omega arith
 arithmetic_calm NegativeExponent = omega arith
 
 module _ (W : ℕ) (n : Typing) where
-  safe-unless : (ok : Bool) (c : Cause) (o : Outcome) → Calm c → (ok ≡ true → Safe W n o) → Safe W n (unless ok c o)
-  safe-unless true c o calm h = h refl
-  safe-unless false c o calm h = calm
+  safe_unless : (ok : Bool) (c : Cause) (o : Outcome) → Calm c → (ok ≡ true → Safe W n o) → Safe W n (unless ok c o)
+  safe_unless true c o calm h = h refl
+  safe_unless false c o calm h = calm
 
-  safe-outside : (k : Option ℕ) (o : Outcome) → Safe W n o → Safe W n (unless_outside k o)
-  safe-outside None o h = h
-  safe-outside (Some k) o h = omega arith
+  safe_outside : (k : Option ℕ) (o : Outcome) → Safe W n o → Safe W n (unless_outside k o)
+  safe_outside None o h = h
+  safe_outside (Some k) o h = omega arith
 
-  safe-finished : (f : Layout) (r : Result (List (Cell f.kind)) ElementFault) → lawful W f ≡ true → Fits n f → Safe W n (finished f r)
-  safe-finished f (Ok xs) exists as_noted = record { exists = exists; fits = as_noted }
-  safe-finished f (Err e) exists as_noted = arithmetic_calm e.fault
+  safe_finished : (f : Layout) (r : Result (List (Cell f.kind)) ElementFault) → lawful W f ≡ true → Fits n f → Safe W n (finished f r)
+  safe_finished f (Ok xs) exists as_noted = record { exists = exists; fits = as_noted }
+  safe_finished f (Err e) exists as_noted = arithmetic_calm e.fault
 
-  safe-ruled : (ok : Bool) (o : Outcome) → ok ≡ true → Safe W n o → Safe W n (unless ok NoRule o)
-  safe-ruled ok o h s = subst (λ (b : Bool). Safe W n (unless b NoRule o)) (sym h) s
+  safe_ruled : (ok : Bool) (o : Outcome) → ok ≡ true → Safe W n o → Safe W n (unless ok NoRule o)
+  safe_ruled ok o h s = subst (λ (b : Bool). Safe W n (unless b NoRule o)) (sym h) s
 
   -- progress and preservation for a row whose plan is as it was noted
   pub safe : (p : Plan) → Met n p → Safe W n (outcome W p)
@@ -74,11 +74,11 @@ module _ (W : ℕ) (n : Typing) where
       let near = fits W p.counted f in
       let two = unless near Beyond three in
       let one = unless p.ordered Disordered two in
-      safe-ruled p.ruled one m.ruled
-      (safe-unless p.ordered Disordered two (omega arith)
-      (λ _. safe-unless near Beyond three (omega arith)
-      (λ close. safe-unless p.agree SizesDiffer four (omega arith)
-      (λ agree. safe-outside p.outside five (safe-finished f p.elements
+      safe_ruled p.ruled one m.ruled
+      (safe_unless p.ordered Disordered two (omega arith)
+      (λ _. safe_unless near Beyond three (omega arith)
+      (λ close. safe_unless p.agree SizesDiffer four (omega arith)
+      (λ agree. safe_outside p.outside five (safe_finished f p.elements
       (and_from (fixed f) (within W f.r f.s) m.exists (and_parts (count_fits W p.counted) (within W f.r f.s) close).1)
       (record { kind = m.matched.kind; shape = m.matched.shape; r = m.matched.r agree; s = m.matched.s agree }))))))
 

@@ -88,15 +88,15 @@ resize_fixed k Matrix R S h g = refl
 resize_fixed k Interval R S h g = absurd (never h)
 
 module _ (W : ℕ) (a : Value) (Ra Sa : Size) (oa : Operand a Ra Sa) where
-  meets-prefix : (op : Prefix) → Meets (prefix_rule op (note_of a Ra Sa)) (prefixed op a)
-  meets-prefix Minus = meets_unless (of Integer (exactly a) && flat (exactly a)) Unfit (value (note_of a Ra Sa)) (prefixed Minus a) (λ ok.
+  meets_prefix : (op : Prefix) → Meets (prefix_rule op (note_of a Ra Sa)) (prefixed op a)
+  meets_prefix Minus = meets_unless (of Integer (exactly a) && flat (exactly a)) Unfit (value (note_of a Ra Sa)) (prefixed Minus a) (λ ok.
       let p = and_parts (of Integer (exactly a)) (flat (exactly a)) ok in
       meets_value (note_of a Ra Sa) (prefixed Minus a) (record {
         ruled = ok;
         exists = fixed_flat a.layout.kind Integer a.layout.shape a.layout.r a.layout.s p.1 oa.exists;
         matched = record { kind = kind_same Integer a.layout.kind p.0; shape = refl; r = λ _. oa.r; s = λ _. oa.s };
       }))
-  meets-prefix Not = meets_unless (of Boolean (exactly a) && flat (exactly a)) Unfit (value (note_of a Ra Sa)) (prefixed Not a) (λ ok.
+  meets_prefix Not = meets_unless (of Boolean (exactly a) && flat (exactly a)) Unfit (value (note_of a Ra Sa)) (prefixed Not a) (λ ok.
       let p = and_parts (of Boolean (exactly a)) (flat (exactly a)) ok in
       meets_value (note_of a Ra Sa) (prefixed Not a) (record {
         ruled = ok;
@@ -104,28 +104,28 @@ module _ (W : ℕ) (a : Value) (Ra Sa : Size) (oa : Operand a Ra Sa) where
         matched = record { kind = kind_same Boolean a.layout.kind p.0; shape = refl; r = λ _. oa.r; s = λ _. oa.s };
       }))
 
-  meets-cast : (k : Kind) → Meets (cast_rule k (note_of a Ra Sa)) (cast_to k a)
-  meets-cast k = meets_unless (flat (exactly a)) Unfit (value (typing k a.layout.shape Ra Sa)) (cast_to k a) (λ ok.
+  meets_cast : (k : Kind) → Meets (cast_rule k (note_of a Ra Sa)) (cast_to k a)
+  meets_cast k = meets_unless (flat (exactly a)) Unfit (value (typing k a.layout.shape Ra Sa)) (cast_to k a) (λ ok.
       meets_value (typing k a.layout.shape Ra Sa) (cast_to k a) (record {
         ruled = ok;
         exists = fixed_flat a.layout.kind k a.layout.shape a.layout.r a.layout.s ok oa.exists;
         matched = matched_known k a.layout.shape Ra Sa a.layout.r a.layout.s true oa.r oa.s;
       }))
 
-  meets-measured : (m : Asked) → Meets (measure_rule m (note_of a Ra Sa)) (measured m a)
-  meets-measured Length = meets_unless (is Vector (exactly a)) Unfit (value (scalar Integer)) (measured Length a) (λ ok. meets_value (scalar Integer) (measured Length a) (record { ruled = ok; exists = refl; matched = matched_known Integer Scalar (Known 1) (Known 1) 1 1 true refl refl }))
-  meets-measured Rows = meets_unless (is Matrix (exactly a)) Unfit (value (scalar Integer)) (measured Rows a) (λ ok. meets_value (scalar Integer) (measured Rows a) (record { ruled = ok; exists = refl; matched = matched_known Integer Scalar (Known 1) (Known 1) 1 1 true refl refl }))
-  meets-measured Columns = meets_unless (is Matrix (exactly a)) Unfit (value (scalar Integer)) (measured Columns a) (λ ok. meets_value (scalar Integer) (measured Columns a) (record { ruled = ok; exists = refl; matched = matched_known Integer Scalar (Known 1) (Known 1) 1 1 true refl refl }))
-  meets-measured Reverse = meets_unless (is Vector (exactly a)) Unfit (value (note_of a Ra Sa)) (measured Reverse a) (λ ok.
+  meets_measured : (m : Asked) → Meets (measure_rule m (note_of a Ra Sa)) (measured m a)
+  meets_measured Length = meets_unless (is Vector (exactly a)) Unfit (value (scalar Integer)) (measured Length a) (λ ok. meets_value (scalar Integer) (measured Length a) (record { ruled = ok; exists = refl; matched = matched_known Integer Scalar (Known 1) (Known 1) 1 1 true refl refl }))
+  meets_measured Rows = meets_unless (is Matrix (exactly a)) Unfit (value (scalar Integer)) (measured Rows a) (λ ok. meets_value (scalar Integer) (measured Rows a) (record { ruled = ok; exists = refl; matched = matched_known Integer Scalar (Known 1) (Known 1) 1 1 true refl refl }))
+  meets_measured Columns = meets_unless (is Matrix (exactly a)) Unfit (value (scalar Integer)) (measured Columns a) (λ ok. meets_value (scalar Integer) (measured Columns a) (record { ruled = ok; exists = refl; matched = matched_known Integer Scalar (Known 1) (Known 1) 1 1 true refl refl }))
+  meets_measured Reverse = meets_unless (is Vector (exactly a)) Unfit (value (note_of a Ra Sa)) (measured Reverse a) (λ ok.
       meets_value (note_of a Ra Sa) (measured Reverse a) (record { ruled = ok; exists = oa.exists; matched = record { kind = refl; shape = refl; r = λ _. oa.r; s = λ _. oa.s } }))
-  meets-measured Single = meets_unless (is Scalar (exactly a)) Unfit (value (vector a.layout.kind (Known 1))) (measured Single a) (λ ok.
+  meets_measured Single = meets_unless (is Scalar (exactly a)) Unfit (value (vector a.layout.kind (Known 1))) (measured Single a) (λ ok.
       meets_value (vector a.layout.kind (Known 1)) (measured Single a) (record { ruled = ok; exists = refl; matched = matched_known a.layout.kind Vector (Known 1) (Known 1) 1 1 true refl refl }))
 
-  meets-copied : Meets (value (note_of a Ra Sa)) (copied a)
-  meets-copied = meets_value (note_of a Ra Sa) (copied a) (record { ruled = refl; exists = oa.exists; matched = record { kind = refl; shape = refl; r = λ _. oa.r; s = λ _. oa.s } })
+  meets_copied : Meets (value (note_of a Ra Sa)) (copied a)
+  meets_copied = meets_value (note_of a Ra Sa) (copied a) (record { ruled = refl; exists = oa.exists; matched = record { kind = refl; shape = refl; r = λ _. oa.r; s = λ _. oa.s } })
 
-  meets-resized : (R S : Size) → Meets (resize_rule W R S (note_of a Ra Sa)) (resized_to R S a)
-  meets-resized R S =
+  meets_resized : (R S : Size) → Meets (resize_rule W R S (note_of a Ra Sa)) (resized_to R S a)
+  meets_resized R S =
       let t = exactly a in
       let k = a.layout.kind in
       let x = a.layout.shape in
@@ -182,8 +182,8 @@ count_one : (b : Value) (R S : Size) → Operand b R S → is Scalar (exactly b)
 count_one b R S ob t = one_count b.layout.kind b.layout.shape b.layout.r b.layout.s (spanned (first b) (last b)) ob.exists t
 
 module _ (W : ℕ) (a b : Value) (Ra Sa Rb Sb : Size) (oa : Operand a Ra Sa) (ob : Operand b Rb Sb) where
-  meets-pair : (k l : Kind) (f : List (Cell k) → List (Cell k) → Result (List (Cell l)) ElementFault) → Meets (elementwise W k l (note_of a Ra Sa) (note_of b Rb Sb)) (pairwise k l f a b)
-  meets-pair k l f =
+  meets_pair : (k l : Kind) (f : List (Cell k) → List (Cell k) → Result (List (Cell l)) ElementFault) → Meets (elementwise W k l (note_of a Ra Sa) (note_of b Rb Sb)) (pairwise k l f a b)
+  meets_pair k l f =
       let t = note_of a Ra Sa in
       let u = note_of b Rb Sb in
       let x = a.layout in
@@ -202,16 +202,16 @@ module _ (W : ℕ) (a b : Value) (Ra Sa Rb Sb : Size) (oa : Operand a Ra Sa) (ob
         matched = matched_spread (is Scalar t) (is Scalar u) eq l x.shape y.shape Ra Sa Rb Sb x.r x.s y.r y.s (same_sizes x.r y.r x.s y.s) oa.r oa.s ob.r ob.s;
       })))
 
-  meets-equated : (op : Equality) → Meets (equality_rule (note_of a Ra Sa) (note_of b Rb Sb)) (equated op a b)
-  meets-equated op =
+  meets_equated : (op : Equality) → Meets (equality_rule (note_of a Ra Sa) (note_of b Rb Sb)) (equated op a b)
+  meets_equated op =
       let t = note_of a Ra Sa in
       let u = note_of b Rb Sb in
       meets_unless (of t.kind u && (pairs t u || (is Interval t && is Interval u))) Unfit (unless (matches_spread t u) Sizes (value (scalar Boolean))) (equated op a b) (λ ok.
       meets_unless (matches_spread t u) Sizes (value (scalar Boolean)) (equated op a b) (λ _.
       meets_value (scalar Boolean) (equated op a b) (record { ruled = ok; exists = refl; matched = matched_known Boolean Scalar (Known 1) (Known 1) 1 1 (matches_spread (exactly a) (exactly b)) refl refl })))
 
-  meets-joined : Meets (join_rule W (note_of a Ra Sa) (note_of b Rb Sb)) (joined a b)
-  meets-joined =
+  meets_joined : Meets (join_rule W (note_of a Ra Sa) (note_of b Rb Sb)) (joined a b)
+  meets_joined =
       let t = note_of a Ra Sa in
       let u = note_of b Rb Sb in
       let k = a.layout.kind in
@@ -222,8 +222,8 @@ module _ (W : ℕ) (a b : Value) (Ra Sa Rb Sb : Size) (oa : Operand a Ra Sa) (ob
         matched = matched_known k Vector (Known 1) (plus Sa Sb) 1 (a.layout.s + b.layout.s) true refl (fits_plus Sa Sb a.layout.s b.layout.s oa.s ob.s);
       }))
 
-  meets-multiplied : Meets (product_rule W (note_of a Ra Sa) (note_of b Rb Sb)) (multiplied a b)
-  meets-multiplied =
+  meets_multiplied : Meets (product_rule W (note_of a Ra Sa) (note_of b Rb Sb)) (multiplied a b)
+  meets_multiplied =
       let t = note_of a Ra Sa in
       let u = note_of b Rb Sb in
       let v = is Vector t in
@@ -242,28 +242,28 @@ module _ (W : ℕ) (a b : Value) (Ra Sa Rb Sb : Size) (oa : Operand a Ra Sa) (ob
         matched = product_matrix v Ra Sb a.layout.r b.layout.s p.agree no' oa.r ob.s;
       }))))
 
-  meets-stepped : Meets (by_rule (note_of a Ra Sa) (note_of b Rb Sb)) (stepped_by a b)
-  meets-stepped =
+  meets_stepped : Meets (by_rule (note_of a Ra Sa) (note_of b Rb Sb)) (stepped_by a b)
+  meets_stepped =
       let t = note_of a Ra Sa in
       let k = a.layout.kind in
       meets_unless ((is Vector t || is Interval t) && alone Integer (note_of b Rb Sb)) Unfit (value (vector k Open)) (stepped_by a b) (λ ok.
       meets_value (vector k Open) (stepped_by a b) (record { ruled = ok; exists = refl; matched = matched_known k Vector (Known 1) Open 1 (stepped_by a b).layout.s true refl tt }))
 
-  meets-infixed : (op : Infix) → Meets (infix_rule W op (note_of a Ra Sa) (note_of b Rb Sb)) (infixed op a b)
-  meets-infixed (family.Arithmetic op) = meets-pair Integer Integer (λ xs ys. collected 1 (map2 (exact op) xs ys))
-  meets-infixed (family.Order op) = meets-pair Integer Boolean (λ xs ys. Ok (map2 (ordered op) xs ys))
-  meets-infixed (family.Logic op) = meets-pair Boolean Boolean (λ xs ys. Ok (map2 (decided op) xs ys))
-  meets-infixed (family.Equality op) = meets-equated op
-  meets-infixed family.Join = meets-joined
-  meets-infixed family.Product = meets-multiplied
-  meets-infixed family.By = meets-stepped
+  meets_infixed : (op : Infix) → Meets (infix_rule W op (note_of a Ra Sa) (note_of b Rb Sb)) (infixed op a b)
+  meets_infixed (family.Arithmetic op) = meets_pair Integer Integer (λ xs ys. collected 1 (map2 (exact op) xs ys))
+  meets_infixed (family.Order op) = meets_pair Integer Boolean (λ xs ys. Ok (map2 (ordered op) xs ys))
+  meets_infixed (family.Logic op) = meets_pair Boolean Boolean (λ xs ys. Ok (map2 (decided op) xs ys))
+  meets_infixed (family.Equality op) = meets_equated op
+  meets_infixed family.Join = meets_joined
+  meets_infixed family.Product = meets_multiplied
+  meets_infixed family.By = meets_stepped
 
-  meets-interval : Meets (interval_rule (note_of a Ra Sa) (note_of b Rb Sb)) (interval a b)
-  meets-interval = meets_unless (alone Integer (note_of a Ra Sa) && alone Integer (note_of b Rb Sb)) Unfit (value interval_typing) (interval a b) (λ ok.
+  meets_interval : Meets (interval_rule (note_of a Ra Sa) (note_of b Rb Sb)) (interval a b)
+  meets_interval = meets_unless (alone Integer (note_of a Ra Sa) && alone Integer (note_of b Rb Sb)) Unfit (value interval_typing) (interval a b) (λ ok.
       meets_value interval_typing (interval a b) (record { ruled = ok; exists = refl; matched = matched_known Integer Interval (Known 1) (Known 2) 1 2 true refl refl }))
 
-  meets-stack : Meets (stack_rule W (note_of a Ra Sa) (note_of b Rb Sb)) (stack a b)
-  meets-stack =
+  meets_stack : Meets (stack_rule W (note_of a Ra Sa) (note_of b Rb Sb)) (stack a b)
+  meets_stack =
       let t = note_of a Ra Sa in
       let u = note_of b Rb Sb in
       let k = a.layout.kind in
@@ -276,8 +276,8 @@ module _ (W : ℕ) (a b : Value) (Ra Sa Rb Sb : Size) (oa : Operand a Ra Sa) (ob
             (fits_plus Ra (Known 1) a.layout.r 1 oa.r refl) (fits_larger Sa Sb a.layout.s b.layout.s oa.s ob.s);
       }))
 
-  meets-pick : Meets (pick_rule (note_of a Ra Sa) (note_of b Rb Sb)) (pick a b)
-  meets-pick =
+  meets_pick : Meets (pick_rule (note_of a Ra Sa) (note_of b Rb Sb)) (pick a b)
+  meets_pick =
       let u = note_of b Rb Sb in
       let k = a.layout.kind in
       let n = cond (is Scalar u) (scalar k) (vector k (span u)) in
@@ -310,44 +310,44 @@ safe_with : (W : ℕ) (n : Typing) (o : Option Value) (f : Value → Outcome) (v
 safe_with W n o f v e h = subst (λ (p : Option Value). Safe W n (with p f)) (sym e) h
 
 module _ (W : ℕ) (at : ℕ → Option Value) (notes : ℕ → Typing) where
-  one-safe : (a : ℕ) (j : Typing → Judged) (p : Value → Plan) → ((v : Value) (R S : Size) → Operand v R S → Meets (j (note_of v R S)) (p v))
+  one_safe : (a : ℕ) (j : Typing → Judged) (p : Value → Plan) → ((v : Value) (R S : Size) → Operand v R S → Meets (j (note_of v R S)) (p v))
       → (m : Option Typing) → Ready W notes at a → j (notes a) ≡ Ok m → Safe W (typing_of m) (by1 W at a p)
-  one-safe a j p meets m ra h =
+  one_safe a j p meets m ra h =
       let v = ra.0 in
       safe_with W (typing_of m) (at a) (λ v. outcome W (p v)) v ra.1
       (as_noted W (notes a) v (λ (t : Typing). j t ≡ Ok m → Safe W (typing_of m) (outcome W (p v))) ra.2 (λ R S o g. safe W (typing_of m) (p v) (meets v R S o m g)) h)
 
-  two-safe : (a b : ℕ) (j : Typing → Typing → Judged) (p : Value → Value → Plan)
+  two_safe : (a b : ℕ) (j : Typing → Typing → Judged) (p : Value → Value → Plan)
       → ((v w : Value) (R S Q T : Size) → Operand v R S → Operand w Q T → Meets (j (note_of v R S) (note_of w Q T)) (p v w))
       → (m : Option Typing) → Ready W notes at a → Ready W notes at b → j (notes a) (notes b) ≡ Ok m → Safe W (typing_of m) (by2 W at a b p)
-  two-safe a b j p meets m ra rb h =
+  two_safe a b j p meets m ra rb h =
       let v = ra.0 in
       safe_with W (typing_of m) (at a) (λ v. by1 W at b (p v)) v ra.1
       (as_noted W (notes a) v (λ (t : Typing). j t (notes b) ≡ Ok m → Safe W (typing_of m) (by1 W at b (p v))) ra.2
-      (λ R S o. one-safe b (j (note_of v R S)) (p v) (λ w Q T. meets v w R S Q T o) m rb) h)
+      (λ R S o. one_safe b (j (note_of v R S)) (p v) (λ w Q T. meets v w R S Q T o) m rb) h)
 
-  three-safe : (a b c : ℕ) (j : Typing → Typing → Typing → Judged) (p : Value → Value → Value → Plan)
+  three_safe : (a b c : ℕ) (j : Typing → Typing → Typing → Judged) (p : Value → Value → Value → Plan)
       → ((u v w : Value) (R S Q T X Y : Size) → Operand u R S → Operand v Q T → Operand w X Y → Meets (j (note_of u R S) (note_of v Q T) (note_of w X Y)) (p u v w))
       → (m : Option Typing) → Ready W notes at a → Ready W notes at b → Ready W notes at c → j (notes a) (notes b) (notes c) ≡ Ok m → Safe W (typing_of m) (by3 W at a b c p)
-  three-safe a b c j p meets m ra rb rc h =
+  three_safe a b c j p meets m ra rb rc h =
       let u = ra.0 in
       safe_with W (typing_of m) (at a) (λ u. by2 W at b c (p u)) u ra.1
       (as_noted W (notes a) u (λ (t : Typing). j t (notes b) (notes c) ≡ Ok m → Safe W (typing_of m) (by2 W at b c (p u))) ra.2
-      (λ R S o. two-safe b c (j (note_of u R S)) (p u) (λ v w Q T X Y. meets u v w R S Q T X Y o) m rb rc) h)
+      (λ R S o. two_safe b c (j (note_of u R S)) (p u) (λ v w Q T X Y. meets u v w R S Q T X Y o) m rb rc) h)
 
   pub expression_safe : (head : Typing) (stream : StreamState) (e : Make) (m : Option Typing) → AllReady W notes at (make_reads e) → make_rule W head notes e ≡ Ok m → Safe W (typing_of m) (evaluated W at stream e)
   expression_safe head stream (make.Literal k z) m r h = safe W (typing_of m) (literal k z) (meets_constant k Scalar 1 1 (literal k z).elements refl m h)
   expression_safe head stream (make.Empty k) m r h = safe W (typing_of m) (empty k) (meets_constant k Vector 1 0 (Ok []) refl m h)
-  expression_safe head stream (make.Variable a) m r h = one-safe a value copied (meets-copied W) m r.0 h
-  expression_safe head stream (make.Prefix op a) m r h = one-safe a (prefix_rule op) (prefixed op) (λ v R S o. meets-prefix W v R S o op) m r.0 h
-  expression_safe head stream (make.Infix op a b) m r h = two-safe a b (infix_rule W op) (infixed op) (λ v w R S Q T o q. meets-infixed W v w R S Q T o q op) m r.0 r.1.0 h
-  expression_safe head stream (make.Interval a b) m r h = two-safe a b interval_rule interval (meets-interval W) m r.0 r.1.0 h
-  expression_safe head stream (make.Stack a b) m r h = two-safe a b (stack_rule W) stack (meets-stack W) m r.0 r.1.0 h
-  expression_safe head stream (make.Pick a b) m r h = two-safe a b pick_rule pick (meets-pick W) m r.0 r.1.0 h
-  expression_safe head stream (make.PickTwo a b c) m r h = three-safe a b c (pick_two_rule W) pick_two (λ u v w R S Q T X Y o p q. meets_pick_two W u v w R S Q T X Y p q) m r.0 r.1.0 r.1.1.0 h
-  expression_safe head stream (make.Measure k a) m r h = one-safe a (measure_rule k) (measured k) (λ v R S o. meets-measured W v R S o k) m r.0 h
-  expression_safe head stream (make.Cast k a) m r h = one-safe a (cast_rule k) (cast_to k) (λ v R S o. meets-cast W v R S o k) m r.0 h
-  expression_safe head stream (make.Resize a x y) m r h = one-safe a (resize_rule W x y) (resized_to x y) (λ v R S o. meets-resized W v R S o x y) m r.0 h
+  expression_safe head stream (make.Variable a) m r h = one_safe a value copied (meets_copied W) m r.0 h
+  expression_safe head stream (make.Prefix op a) m r h = one_safe a (prefix_rule op) (prefixed op) (λ v R S o. meets_prefix W v R S o op) m r.0 h
+  expression_safe head stream (make.Infix op a b) m r h = two_safe a b (infix_rule W op) (infixed op) (λ v w R S Q T o q. meets_infixed W v w R S Q T o q op) m r.0 r.1.0 h
+  expression_safe head stream (make.Interval a b) m r h = two_safe a b interval_rule interval (meets_interval W) m r.0 r.1.0 h
+  expression_safe head stream (make.Stack a b) m r h = two_safe a b (stack_rule W) stack (meets_stack W) m r.0 r.1.0 h
+  expression_safe head stream (make.Pick a b) m r h = two_safe a b pick_rule pick (meets_pick W) m r.0 r.1.0 h
+  expression_safe head stream (make.PickTwo a b c) m r h = three_safe a b c (pick_two_rule W) pick_two (λ u v w R S Q T X Y o p q. meets_pick_two W u v w R S Q T X Y p q) m r.0 r.1.0 r.1.1.0 h
+  expression_safe head stream (make.Measure k a) m r h = one_safe a (measure_rule k) (measured k) (λ v R S o. meets_measured W v R S o k) m r.0 h
+  expression_safe head stream (make.Cast k a) m r h = one_safe a (cast_rule k) (cast_to k) (λ v R S o. meets_cast W v R S o k) m r.0 h
+  expression_safe head stream (make.Resize a x y) m r h = one_safe a (resize_rule W x y) (resized_to x y) (λ v R S o. meets_resized W v R S o x y) m r.0 h
   expression_safe head stream make.State m r h = safe W (typing_of m) (streamed stream) (meets_constant Integer Scalar 1 1 (streamed stream).elements refl m h)
 
 -- ---- rows that declare

@@ -103,8 +103,8 @@ module _ (W rows : ℕ) (notes : ℕ → Typing) (p line : ℕ) (s : State) (roo
   StepAdvances i e x = Advances W rows notes p line s x.answer x.state i e
 
   -- ---- one lemma an effect
-  placed-room : (i : ℕ) (v : Value) → i < rows → lawful W v.layout ≡ true → Whole v → (k : Kind) → rows * W ≤ length (table_of k (placed_in W s.tables i v))
-  placed-room i v under law whole k =
+  placed_room : (i : ℕ) (v : Value) → i < rows → lawful W v.layout ≡ true → Whole v → (k : Kind) → rows * W ≤ length (table_of k (placed_in W s.tables i v))
+  placed_room i v under law whole k =
       let few = lawful_area W v.layout law in
       let all = under_all W i rows under in
       let here = roomy.cells v.layout.kind in
@@ -112,30 +112,30 @@ module _ (W rows : ℕ) (notes : ℕ → Typing) (p line : ℕ) (s : State) (roo
       let same = table_length k v.layout.kind s.tables (i * W) v.elements (omega arith) in
       omega arith
 
-  taking-made : (i : ℕ) (v : Value) (position q : ℕ) → i < rows → Held W (notes i) v → Whole v → Made W rows notes p line s (Ok (Row q)) (taking W s i v position) i q
-  taking-made i v position q under held whole =
+  taking_made : (i : ℕ) (v : Value) (position q : ℕ) → i < rows → Held W (notes i) v → Whole v → Made W rows notes p line s (Ok (Row q)) (taking W s i v position) i q
+  taking_made i v position q under held whole =
       let stands = effects.takes W rows s i v position roomy under held.exists whole in
       record {
         next = refl;
         own = (v, stands.own, held);
         others = stands.others;
-        room = record { slips = (let fit = roomy.slips in simp length-set (omega arith)); cells = placed-room i v under held.exists whole };
+        room = record { slips = (let fit = roomy.slips in simp length-set (omega arith)); cells = placed_room i v under held.exists whole };
         beside = record { waiting = refl; taken = refl; stream = refl; output = refl; printed = refl };
       }
 
-  refilled-made : (i : ℕ) (a v : Value) (q : ℕ) → i < rows → value_at W s i ≡ Some a → v.layout ≡ a.layout → Held W (notes i) v → Whole v → Made W rows notes p line s (Ok (Row q)) (refilled W s i v) i q
-  refilled-made i a v q under is same held whole =
+  refilled_made : (i : ℕ) (a v : Value) (q : ℕ) → i < rows → value_at W s i ≡ Some a → v.layout ≡ a.layout → Held W (notes i) v → Whole v → Made W rows notes p line s (Ok (Row q)) (refilled W s i v) i q
+  refilled_made i a v q under is same held whole =
       let stands = effects.refills W rows s i a v roomy under is same whole in
       record {
         next = refl;
         own = (v, stands.own, held);
         others = stands.others;
-        room = record { slips = roomy.slips; cells = placed-room i v under held.exists whole };
+        room = record { slips = roomy.slips; cells = placed_room i v under held.exists whole };
         beside = record { waiting = refl; taken = refl; stream = refl; output = refl; printed = refl };
       }
 
-  stopped-failed : (c : Cause) (element : ℕ) → Calm c → Failed W rows notes p line s (Err (fault_of W p line s c element)) s
-  stopped-failed c element calm = record {
+  stopped_failed : (c : Cause) (element : ℕ) → Calm c → Failed W rows notes p line s (Err (fault_of W p line s c element)) s
+  stopped_failed c element calm = record {
     fault = fault_of W p line s c element;
     answer = refl;
     of_row = refl;
@@ -147,8 +147,8 @@ module _ (W rows : ℕ) (notes : ℕ → Typing) (p line : ℕ) (s : State) (roo
     beside = record { waiting = refl; taken = refl; stream = refl; output = refl; printed = refl };
   }
 
-  blanked-ended : (i e : ℕ) → i < rows → Ended W rows notes p line s (Ok (Row (e + 1))) (blanked s i) i e
-  blanked-ended i e under =
+  blanked_ended : (i e : ℕ) → i < rows → Ended W rows notes p line s (Ok (Row (e + 1))) (blanked s i) i e
+  blanked_ended i e under =
       let stands = effects.blanks W rows s i roomy under in
       record {
         next = refl;
@@ -158,8 +158,8 @@ module _ (W rows : ℕ) (notes : ℕ → Typing) (p line : ℕ) (s : State) (roo
         beside = record { waiting = refl; taken = refl; stream = refl; output = refl; printed = refl };
       }
 
-  faulted-failed : (c : Cause) (element : ℕ) (a : Answer) (t : State) → Calm c → Faulted W p line s c element a t → Failed W rows notes p line s a t
-  faulted-failed c element a t calm h =
+  faulted_failed : (c : Cause) (element : ℕ) (a : Answer) (t : State) → Calm c → Faulted W p line s c element a t → Failed W rows notes p line s a t
+  faulted_failed c element a t calm h =
       let same = h.rest in
       let stands = effects.faults W rows s t p roomy inside same h.free in
       record {
@@ -184,22 +184,22 @@ module _ (W rows : ℕ) (notes : ℕ → Typing) (p line : ℕ) (s : State) (roo
       }
 
   -- ---- rows, by what they do with an outcome
-  evaluates-kept : (o : Outcome) (a : Answer) (t : State) → ((v : Value) → o ≡ gives v → Whole v) → Safe W (notes p) o → Evaluates W p line s o a t → Makes W rows notes p line s a t p
-  evaluates-kept (gives v) a t whole safe h = subst (StepMakes p) (sym h) (inl (taking-made p v 0 (p + 1) inside safe (whole v refl)))
-  evaluates-kept (faults c element) a t whole safe h = inr (faulted-failed c element a t safe h)
+  evaluates_kept : (o : Outcome) (a : Answer) (t : State) → ((v : Value) → o ≡ gives v → Whole v) → Safe W (notes p) o → Evaluates W p line s o a t → Makes W rows notes p line s a t p
+  evaluates_kept (gives v) a t whole safe h = subst (StepMakes p) (sym h) (inl (taking_made p v 0 (p + 1) inside safe (whole v refl)))
+  evaluates_kept (faults c element) a t whole safe h = inr (faulted_failed c element a t safe h)
 
-  declares-kept : (o : Outcome) → ((v : Value) → o ≡ gives v → Whole v) → Safe W (notes p) o → StepMakes p (declares W p line s o)
-  declares-kept (gives v) whole safe = inl (taking-made p v 0 (p + 1) inside safe (whole v refl))
-  declares-kept (faults c element) whole safe = inr (stopped-failed c element safe)
+  declares_kept : (o : Outcome) → ((v : Value) → o ≡ gives v → Whole v) → Safe W (notes p) o → StepMakes p (declares W p line s o)
+  declares_kept (gives v) whole safe = inl (taking_made p v 0 (p + 1) inside safe (whole v refl))
+  declares_kept (faults c element) whole safe = inr (stopped_failed c element safe)
 
-  refills-kept : (i : ℕ) (a : Value) (o : Outcome) → i < rows → value_at W s i ≡ Some a → ((v : Value) → o ≡ gives v → (v.layout ≡ a.layout) × Whole v) → Safe W (notes i) o → StepMakes i (refills W p line s i o)
-  refills-kept i a (gives v) under is told safe = let both = told v refl in inl (refilled-made i a v (p + 1) under is both.0 safe both.1)
-  refills-kept i a (faults c element) under is told safe = inr (stopped-failed c element safe)
+  refills_kept : (i : ℕ) (a : Value) (o : Outcome) → i < rows → value_at W s i ≡ Some a → ((v : Value) → o ≡ gives v → (v.layout ≡ a.layout) × Whole v) → Safe W (notes i) o → StepMakes i (refills W p line s i o)
+  refills_kept i a (gives v) under is told safe = let both = told v refl in inl (refilled_made i a v (p + 1) under is both.0 safe both.1)
+  refills_kept i a (faults c element) under is told safe = inr (stopped_failed c element safe)
 
-  advances-kept : (i e n : ℕ) (r : Turned) → i < rows → ((v : Value) → r ≡ takes v → Whole v) → TurnSafe W (notes i) r → StepAdvances i e (advances W p line s i e n r)
-  advances-kept i e n (takes v) under whole safe = inl (taking-made i v n (i + 1) under safe (whole v refl))
-  advances-kept i e n over under whole safe = inr (inr (blanked-ended i e under))
-  advances-kept i e n (fails c) under whole safe = inr (inl (stopped-failed c 0 safe))
+  advances_kept : (i e n : ℕ) (r : Turned) → i < rows → ((v : Value) → r ≡ takes v → Whole v) → TurnSafe W (notes i) r → StepAdvances i e (advances W p line s i e n r)
+  advances_kept i e n (takes v) under whole safe = inl (taking_made i v n (i + 1) under safe (whole v refl))
+  advances_kept i e n over under whole safe = inr (inr (blanked_ended i e under))
+  advances_kept i e n (fails c) under whole safe = inr (inl (stopped_failed c 0 safe))
 
   -- ---- operands are whole
   found_at : (i : ℕ) → i < rows → WholeAt W (value_at W s) i
@@ -213,8 +213,8 @@ module _ (W rows : ℕ) (notes : ℕ → Typing) (p line : ℕ) (s : State) (roo
   passes : (q : ℕ) → Passed W rows notes p line s (Ok (Row q)) s q
   passes q = record { next = refl; same = refl }
 
-  branches-kept : (i q : ℕ) (m : Option Typing) → Ready W notes (value_at W s) i → condition_rule (notes i) ≡ Ok m → (let x = branches W p line s (value_at W s i) q in Branches W rows notes p line s x.answer x.state q)
-  branches-kept i q m ready h =
+  branches_kept : (i q : ℕ) (m : Option Typing) → Ready W notes (value_at W s) i → condition_rule (notes i) ≡ Ok m → (let x = branches W p line s (value_at W s i) q in Branches W rows notes p line s x.answer x.state q)
+  branches_kept i q m ready h =
       let v = ready.0 in
       let to = goes s (q + 1) in
       let Goal : Step → Type 0 = λ x. Branches W rows notes p line s x.answer x.state q in
@@ -225,8 +225,8 @@ module _ (W rows : ℕ) (notes : ℕ → Typing) (p line : ℕ) (s : State) (roo
       subst Goal (sym (cond-true (alone Boolean (exactly v)) (cond (truth v) on to) (stuck W p line s) has))
       (cond_both (truth v) on to Goal (λ _. inl (passes (p + 1))) (λ _. inr (passes (q + 1))))) h)
 
-  prints-kept : (i : ℕ) (m : Option Typing) → Ready W notes (value_at W s) i → unless (flat (notes i)) Unfit nothing ≡ Ok m → (let x = prints W p line s (value_at W s i) in Printed W rows notes p line s x.answer x.state i ⊎ Awaits W rows notes p line s x.answer x.state i)
-  prints-kept i m ready h =
+  prints_kept : (i : ℕ) (m : Option Typing) → Ready W notes (value_at W s) i → unless (flat (notes i)) Unfit nothing ≡ Ok m → (let x = prints W p line s (value_at W s i) in Printed W rows notes p line s x.answer x.state i ⊎ Awaits W rows notes p line s x.answer x.state i)
+  prints_kept i m ready h =
       let v = ready.0 in
       let bytes = text v in
       let Goal : Step → Type 0 = λ x. Printed W rows notes p line s x.answer x.state i ⊎ Awaits W rows notes p line s x.answer x.state i in
@@ -252,7 +252,7 @@ module _ (W rows : ℕ) (notes : ℕ → Typing) (p line : ℕ) (s : State) (roo
       let same : scalar_of k ≡ v.layout = scalar_same k v.layout.shape v.layout.r v.layout.s law has in
       let exists : lawful W (scalar_of k) ≡ true = ap (lawful W) same ∙ ready.2.exists in
       let fits : Fits (notes i) (scalar_of k) = subst (λ (f : Layout). Fits (notes i) f) (sym same) ready.2.fits in
-      let made = refilled-made i v new (p + 1) under ready.1 same (record { exists = exists; fits = fits }) refl in
+      let made = refilled_made i v new (p + 1) under ready.1 same (record { exists = exists; fits = fits }) refl in
       let room = made.room in
       record {
         next = refl;
@@ -268,8 +268,8 @@ module _ (W rows : ℕ) (notes : ℕ → Typing) (p line : ℕ) (s : State) (roo
       let has = (unless_ok (is Scalar (exactly v)) Unfit nothing m g).0 in
       subst Goal (sym (cond-true (is Scalar (exactly v)) (reads_into W p line s i k got left) (stuck W p line s) has)) (gone-from has)) h)
 
-  returns-kept : (head : Typing) (i : ℕ) (m : Option Typing) → Ready W notes (value_at W s) i → return_rule head (notes i) ≡ Ok m → (let x = returns W p line s head (value_at W s i) in Returned W rows notes p line s x.answer x.state head i ⊎ Failed W rows notes p line s x.answer x.state)
-  returns-kept head i m ready h =
+  returns_kept : (head : Typing) (i : ℕ) (m : Option Typing) → Ready W notes (value_at W s) i → return_rule head (notes i) ≡ Ok m → (let x = returns W p line s head (value_at W s i) in Returned W rows notes p line s x.answer x.state head i ⊎ Failed W rows notes p line s x.answer x.state)
+  returns_kept head i m ready h =
       let v = ready.0 in
       let f = v.layout in
       let Goal : Step → Type 0 = λ x. Returned W rows notes p line s x.answer x.state head i ⊎ Failed W rows notes p line s x.answer x.state in
@@ -297,21 +297,21 @@ module _ (W rows : ℕ) (notes : ℕ → Typing) (p line : ℕ) (s : State) (roo
           s = agree_fits head.s f.s sizes.1;
         };
       }))
-      (λ _. inr (stopped-failed SizesDiffer 0 (omega arith))))) h)
+      (λ _. inr (stopped_failed SizesDiffer 0 (omega arith))))) h)
 
   -- ---- each: its first element, and its next
-  each-kept : (i a e n : ℕ) (m : Option Typing) → i < rows → typing_of m ≡ notes i → Ready W notes (value_at W s) a → each_rule (notes a) ≡ Ok m → StepAdvances i e (advances W p line s i e n (turned (value_at W s a) n))
-  each-kept i a e n m under same ready h =
+  each_kept : (i a e n : ℕ) (m : Option Typing) → i < rows → typing_of m ≡ notes i → Ready W notes (value_at W s) a → each_rule (notes a) ≡ Ok m → StepAdvances i e (advances W p line s i e n (turned (value_at W s a) n))
+  each_kept i a e n m under same ready h =
       let v = ready.0 in
       subst (λ (o : Option Value). StepAdvances i e (advances W p line s i e n (turned o n))) (sym ready.1)
-      (advances-kept i e n (turned (Some v) n) under (turned_whole v n) (subst (λ (k : Typing). TurnSafe W k (turned (Some v) n)) same (each_safe W n v (notes a) m ready.2 h)))
+      (advances_kept i e n (turned (Some v) n) under (turned_whole v n) (subst (λ (k : Typing). TurnSafe W k (turned (Some v) n)) same (each_safe W n v (notes a) m ready.2 h)))
 
   again_kept : (i a e : ℕ) (m : Option Typing) → i < rows → typing_of m ≡ notes i → Ready W notes (value_at W s) i → Ready W notes (value_at W s) a → each_rule (notes a) ≡ Ok m → StepAdvances i e (again W p line s i a e (slip_at s.slips i).kind)
   again_kept i a e m under same own ready h =
       let slip = slip_at s.slips i in
       let told = (valued_some W i s.tables (layout_at W s.slips i) own.0 own.1).0 in
       let held = layout_kind W slip slip.kind own.0.layout told in
-      subst (λ (o : Option Kind). StepAdvances i e (again W p line s i a e o)) (sym held.1) (each-kept i a e (slip.position + 1) m under same ready h)
+      subst (λ (o : Option Kind). StepAdvances i e (again W p line s i a e o)) (sym held.1) (each_kept i a e (slip.position + 1) m under same ready h)
 
 -- ---- every row
 module _ (W line : ℕ) (head : Typing) (lines : List Line) (rows : ℕ) (s : State) (p : ℕ) (roomy : Roomy W rows s) (inside : p < rows) where
@@ -324,16 +324,16 @@ module _ (W line : ℕ) (head : Typing) (lines : List Line) (rows : ℕ) (s : St
   abbrev Hand : List ℕ → Type 0
   Hand is = AllUnder rows is × AllReady W notes (value_at W s) is
 
-  begins-kept : (w : Typing) (v : Start) → Writes w → Hand (start_reads v) → start_rule W head notes w v ≡ Ok own → StepMakes W rows notes p line s roomy inside p (begins W p line s w v)
-  begins-kept w Nulls law hand h = declares-kept W rows notes p line s roomy inside (outcome W (nulls w)) (λ v o. wholes.nulls W w v o) (nulls_safe W w own law h)
-  begins-kept w (Given a) law hand h =
+  begins_kept : (w : Typing) (v : Start) → Writes w → Hand (start_reads v) → start_rule W head notes w v ≡ Ok own → StepMakes W rows notes p line s roomy inside p (begins W p line s w v)
+  begins_kept w Nulls law hand h = declares_kept W rows notes p line s roomy inside (outcome W (nulls w)) (λ v o. wholes.nulls W w v o) (nulls_safe W w own law h)
+  begins_kept w (Given a) law hand h =
       let ra = hand.1.0 in
       let e = with_some (value_at W s a) (λ v. outcome W (declared w v)) ra.0 ra.1 in
       subst (λ (o : Outcome). StepMakes W rows notes p line s roomy inside p (declares W p line s o)) (sym e)
-      (declares-kept W rows notes p line s roomy inside (outcome W (declared w ra.0)) (λ v o. wholes.declares W w ra.0 v o) (declare_safe W w ra.0 (notes a) own law ra.2 h))
+      (declares_kept W rows notes p line s roomy inside (outcome W (declared w ra.0)) (λ v o. wholes.declares W w ra.0 v o) (declare_safe W w ra.0 (notes a) own law ra.2 h))
 
-  assigns-kept : (i a : ℕ) → Hand (i ∷ a ∷ []) → change_rule W head notes (change.Assign i a) ≡ Ok own → StepMakes W rows notes p line s roomy inside i (changes W p line s head (change.Assign i a))
-  assigns-kept i a hand h =
+  assigns_kept : (i a : ℕ) → Hand (i ∷ a ∷ []) → change_rule W head notes (change.Assign i a) ≡ Ok own → StepMakes W rows notes p line s roomy inside i (changes W p line s head (change.Assign i a))
+  assigns_kept i a hand h =
       let ri = hand.1.0 in
       let ra = hand.1.1.0 in
       let u = ri.0 in
@@ -341,12 +341,12 @@ module _ (W line : ℕ) (head : Typing) (lines : List Line) (rows : ℕ) (s : St
       let wa = found W rows s roomy a ra.0 hand.0.1.0 ra.1 in
       let e = with_some (value_at W s i) (λ u. by1 W (value_at W s) a (assigned u)) u ri.1 ∙ with_some (value_at W s a) (λ v. outcome W (assigned u v)) ra.0 ra.1 in
       subst (λ (o : Outcome). StepMakes W rows notes p line s roomy inside i (refills W p line s i o)) (sym e)
-      (refills-kept W rows notes p line s roomy inside i u (outcome W (assigned u ra.0)) hand.0.0 ri.1
+      (refills_kept W rows notes p line s roomy inside i u (outcome W (assigned u ra.0)) hand.0.0 ri.1
       (λ v o. (layout_of W (assigned u ra.0) v o, wholes.assigns W u ra.0 v wi.0 wi.1 wa.0 wa.1 o))
       (assign_safe W u ra.0 (notes i) (notes a) own ri.2 ra.2 h))
 
-  stores-kept : (i b c : ℕ) → Hand (i ∷ b ∷ c ∷ []) → change_rule W head notes (change.Store i b c) ≡ Ok own → StepMakes W rows notes p line s roomy inside i (changes W p line s head (change.Store i b c))
-  stores-kept i b c hand h =
+  stores_kept : (i b c : ℕ) → Hand (i ∷ b ∷ c ∷ []) → change_rule W head notes (change.Store i b c) ≡ Ok own → StepMakes W rows notes p line s roomy inside i (changes W p line s head (change.Store i b c))
+  stores_kept i b c hand h =
       let ri = hand.1.0 in
       let rb = hand.1.1.0 in
       let rc = hand.1.1.1.0 in
@@ -356,12 +356,12 @@ module _ (W line : ℕ) (head : Typing) (lines : List Line) (rows : ℕ) (s : St
       ∙ with_some (value_at W s b) (λ v. by1 W (value_at W s) c (stored_at u v)) rb.0 rb.1
       ∙ with_some (value_at W s c) (λ w. outcome W (stored_at u rb.0 w)) rc.0 rc.1 in
       subst (λ (o : Outcome). StepMakes W rows notes p line s roomy inside i (refills W p line s i o)) (sym e)
-      (refills-kept W rows notes p line s roomy inside i u (outcome W (stored_at u rb.0 rc.0)) hand.0.0 ri.1
+      (refills_kept W rows notes p line s roomy inside i u (outcome W (stored_at u rb.0 rc.0)) hand.0.0 ri.1
       (λ v o. (layout_of W (stored_at u rb.0 rc.0) v o, wholes.stores W u rb.0 rc.0 v wi.1 o))
       (store_safe W u rb.0 rc.0 (notes i) (notes b) (notes c) own ri.2 rb.2 rc.2 h))
 
-  stores-two-kept : (i b c d : ℕ) → Hand (i ∷ b ∷ c ∷ d ∷ []) → change_rule W head notes (change.StoreTwo i b c d) ≡ Ok own → StepMakes W rows notes p line s roomy inside i (changes W p line s head (change.StoreTwo i b c d))
-  stores-two-kept i b c d hand h =
+  stores_two_kept : (i b c d : ℕ) → Hand (i ∷ b ∷ c ∷ d ∷ []) → change_rule W head notes (change.StoreTwo i b c d) ≡ Ok own → StepMakes W rows notes p line s roomy inside i (changes W p line s head (change.StoreTwo i b c d))
+  stores_two_kept i b c d hand h =
       let ri = hand.1.0 in
       let rb = hand.1.1.0 in
       let rc = hand.1.1.1.0 in
@@ -373,54 +373,54 @@ module _ (W line : ℕ) (head : Typing) (lines : List Line) (rows : ℕ) (s : St
       ∙ with_some (value_at W s c) (λ w. by1 W (value_at W s) d (stored_at_two u rb.0 w)) rc.0 rc.1
       ∙ with_some (value_at W s d) (λ x. outcome W (stored_at_two u rb.0 rc.0 x)) rd.0 rd.1 in
       subst (λ (o : Outcome). StepMakes W rows notes p line s roomy inside i (refills W p line s i o)) (sym e)
-      (refills-kept W rows notes p line s roomy inside i u (outcome W (stored_at_two u rb.0 rc.0 rd.0)) hand.0.0 ri.1
+      (refills_kept W rows notes p line s roomy inside i u (outcome W (stored_at_two u rb.0 rc.0 rd.0)) hand.0.0 ri.1
       (λ v o. (layout_of W (stored_at_two u rb.0 rc.0 rd.0) v o, wholes.stores_two_whole W u rb.0 rc.0 rd.0 v wi.1 o))
       (store_two_safe W u rb.0 rc.0 rd.0 (notes i) (notes b) (notes c) (notes d) own ri.2 rb.2 rc.2 rd.2 h))
 
-  change-kept : (c : Changes) → change_writes c ≡ true → Hand (change_reads c) → change_rule W head notes c ≡ Ok own → (let x = changes W p line s head c in ChangeLeaves W rows notes p line s x.answer x.state head c)
-  change-kept (change.Declare k x r z v) law hand h = begins-kept (typing k x r z) v law hand h
-  change-kept (change.Assign i a) law hand h = assigns-kept i a hand h
-  change-kept (change.Store i b c) law hand h = stores-kept i b c hand h
-  change-kept (change.StoreTwo i b c d) law hand h = stores-two-kept i b c d hand h
-  change-kept (change.Print a) law hand h = prints-kept W rows notes p line s roomy inside a own hand.1.0 h
-  change-kept (change.Read i) law hand h = reads_kept W rows notes p line s roomy inside i own hand.0.0 hand.1.0 h
-  change-kept (change.Return a) law hand h = returns-kept W rows notes p line s roomy inside head a own hand.1.0 h
+  change_kept : (c : Changes) → change_writes c ≡ true → Hand (change_reads c) → change_rule W head notes c ≡ Ok own → (let x = changes W p line s head c in ChangeLeaves W rows notes p line s x.answer x.state head c)
+  change_kept (change.Declare k x r z v) law hand h = begins_kept (typing k x r z) v law hand h
+  change_kept (change.Assign i a) law hand h = assigns_kept i a hand h
+  change_kept (change.Store i b c) law hand h = stores_kept i b c hand h
+  change_kept (change.StoreTwo i b c d) law hand h = stores_two_kept i b c d hand h
+  change_kept (change.Print a) law hand h = prints_kept W rows notes p line s roomy inside a own hand.1.0 h
+  change_kept (change.Read i) law hand h = reads_kept W rows notes p line s roomy inside i own hand.0.0 hand.1.0 h
+  change_kept (change.Return a) law hand h = returns_kept W rows notes p line s roomy inside head a own hand.1.0 h
 
   -- end and continue, by the opener
-  resume-kept : (i : ℕ) (u : Turn) → (at lines i).instruction ≡ Control u → Hand (resume_reads i u) → AllNoted W head lines (resumed i u) → (let x = resumes W p line s i u in ResumeLeaves W rows notes p line s x.answer x.state i u)
-  resume-kept i (control.If a b) e hand h = record { next = refl; same = refl }
-  resume-kept i (control.Else b) e hand h = record { next = refl; same = refl }
-  resume-kept i (control.Loop b) e hand h = record { next = refl; same = refl }
-  resume-kept i (control.Each a b) e hand h =
+  resume_kept : (i : ℕ) (u : Turn) → (at lines i).instruction ≡ Control u → Hand (resume_reads i u) → AllNoted W head lines (resumed i u) → (let x = resumes W p line s i u in ResumeLeaves W rows notes p line s x.answer x.state i u)
+  resume_kept i (control.If a b) e hand h = record { next = refl; same = refl }
+  resume_kept i (control.Else b) e hand h = record { next = refl; same = refl }
+  resume_kept i (control.Loop b) e hand h = record { next = refl; same = refl }
+  resume_kept i (control.Each a b) e hand h =
       again_kept W rows notes p line s roomy inside i a b (at lines i).typing hand.0.0 refl hand.1.0 hand.1.1.0 (ap (typed W head notes) (sym e) ∙ h.0)
-  resume-kept i (control.Test a) e hand h = record { next = refl; same = refl }
-  resume-kept i control.Break e hand h = record { next = refl; same = refl }
-  resume-kept i control.Continue e hand h = record { next = refl; same = refl }
-  resume-kept i (control.End b) e hand h = record { next = refl; same = refl }
+  resume_kept i (control.Test a) e hand h = record { next = refl; same = refl }
+  resume_kept i control.Break e hand h = record { next = refl; same = refl }
+  resume_kept i control.Continue e hand h = record { next = refl; same = refl }
+  resume_kept i (control.End b) e hand h = record { next = refl; same = refl }
 
-  reopen-kept : (i : ℕ) (x : Instruction) → (at lines i).instruction ≡ x → Hand (reopen_reads i x) → AllNoted W head lines (reopened i x) → (let y = reopens W p line s i x in ReopenLeaves W rows notes p line s y.answer y.state i x)
-  reopen-kept i (Expression e) same hand h = record { next = refl; same = refl }
-  reopen-kept i (Change c) same hand h = record { next = refl; same = refl }
-  reopen-kept i (Control u) same hand h = resume-kept i u same hand h
+  reopen_kept : (i : ℕ) (x : Instruction) → (at lines i).instruction ≡ x → Hand (reopen_reads i x) → AllNoted W head lines (reopened i x) → (let y = reopens W p line s i x in ReopenLeaves W rows notes p line s y.answer y.state i x)
+  reopen_kept i (Expression e) same hand h = record { next = refl; same = refl }
+  reopen_kept i (Change c) same hand h = record { next = refl; same = refl }
+  reopen_kept i (Control u) same hand h = resume_kept i u same hand h
 
-  turn-kept : (target : ℕ) (u : Turn) → Hand (turn_reads lines target u) → turn_rule W head notes u ≡ Ok own → AllNoted W head lines (turn_advances lines target u) → (let x = turns W p line s lines target u in TurnLeaves W rows notes p line s x.answer x.state lines target u)
-  turn-kept target (control.If a b) hand h more = branches-kept W rows notes p line s roomy inside a target own hand.1.0 h
-  turn-kept target (control.Else b) hand h more = record { next = refl; same = refl }
-  turn-kept target (control.Loop b) hand h more = record { next = refl; same = refl }
-  turn-kept target (control.Each a b) hand h more = each-kept W rows notes p line s roomy inside p a b 0 own inside refl hand.1.0 h
-  turn-kept target (control.Test a) hand h more = branches-kept W rows notes p line s roomy inside a target own hand.1.0 h
-  turn-kept target control.Break hand h more = record { next = refl; same = refl }
-  turn-kept target control.Continue hand h more = reopen-kept target (at lines target).instruction refl hand more
-  turn-kept target (control.End b) hand h more = reopen-kept target (at lines target).instruction refl hand more
+  turn_kept : (target : ℕ) (u : Turn) → Hand (turn_reads lines target u) → turn_rule W head notes u ≡ Ok own → AllNoted W head lines (turn_advances lines target u) → (let x = turns W p line s lines target u in TurnLeaves W rows notes p line s x.answer x.state lines target u)
+  turn_kept target (control.If a b) hand h more = branches_kept W rows notes p line s roomy inside a target own hand.1.0 h
+  turn_kept target (control.Else b) hand h more = record { next = refl; same = refl }
+  turn_kept target (control.Loop b) hand h more = record { next = refl; same = refl }
+  turn_kept target (control.Each a b) hand h more = each_kept W rows notes p line s roomy inside p a b 0 own inside refl hand.1.0 h
+  turn_kept target (control.Test a) hand h more = branches_kept W rows notes p line s roomy inside a target own hand.1.0 h
+  turn_kept target control.Break hand h more = record { next = refl; same = refl }
+  turn_kept target control.Continue hand h more = reopen_kept target (at lines target).instruction refl hand more
+  turn_kept target (control.End b) hand h more = reopen_kept target (at lines target).instruction refl hand more
 
   row_kept : (target : ℕ) (x : Instruction) (a : Answer) (t : State) → Hand (reads lines target x) → typed W head notes x ≡ Ok own → AllNoted W head lines (advanced lines target x) → written_fits x ≡ true
       → Acts W p line s head lines target x a t → Leaves W rows notes p line s a t head lines target x
   row_kept target (Expression e) a t hand h more law act =
-      evaluates-kept W rows notes p line s roomy inside (evaluated W (value_at W s) s.stream e) a t
+      evaluates_kept W rows notes p line s roomy inside (evaluated W (value_at W s) s.stream e) a t
       (λ v o. wholes.expressions W s.stream (value_at W s) e v (found_all W rows notes p line s roomy inside (make_reads e) hand.0) o)
       (expression_safe W (value_at W s) notes head s.stream e own hand.1 h) act
-  row_kept target (Change c) a t hand h more law act = subst (λ (x : Step). ChangeLeaves W rows notes p line s x.answer x.state head c) (sym act) (change-kept c law hand h)
-  row_kept target (Control u) a t hand h more law act = subst (λ (x : Step). TurnLeaves W rows notes p line s x.answer x.state lines target u) (sym act) (turn-kept target u hand h more)
+  row_kept target (Change c) a t hand h more law act = subst (λ (x : Step). ChangeLeaves W rows notes p line s x.answer x.state head c) (sym act) (change_kept c law hand h)
+  row_kept target (Control u) a t hand h more law act = subst (λ (x : Step). TurnLeaves W rows notes p line s x.answer x.state lines target u) (sym act) (turn_kept target u hand h more)
 
 pub rows_safe : RowsSafe
 rows_safe W line head lines rows s p a t roomy inside under ready noted law act =

@@ -82,8 +82,8 @@ module _ (x : SheetRow) where
   abbrev Code : ℕ → Bool
   Code n = eqb x.code n
 
-  fine-expression : Fine (expression_of x)
-  fine-expression =
+  fine_expression : Fine (expression_of x)
+  fine_expression =
       fine_cond (Code 1) _ _ (fine_literal (kind_of x.a) x.n) (
       fine_cond (Code 2) _ _ (fine_empty (kind_of x.a)) (
       fine_cond (Code 3) _ _ (fine_some (Expression (make.Variable x.a)) refl) (
@@ -98,8 +98,8 @@ module _ (x : SheetRow) where
       fine_cond (Code 12) _ _ (fine_some (Expression (make.Resize x.a (written x.r) (written x.s))) refl) (
       fine_cond (Code 13) _ _ (fine_some (Expression make.State) refl) fine_none))))))))))))
 
-  fine-statement : Fine (statement_of x)
-  fine-statement =
+  fine_statement : Fine (statement_of x)
+  fine_statement =
       fine_cond (Code 20) _ _ (fine_declared (kind_of x.c) (shape_of x.b) (written x.r) (written x.s) (start_of x.a)) (
       fine_cond (Code 21) _ _ (fine_some (Change (change.Assign x.a x.b)) refl) (
       fine_cond (Code 22) _ _ (fine_some (Change (change.Store x.a x.b x.c)) refl) (
@@ -116,8 +116,8 @@ module _ (x : SheetRow) where
       fine_cond (Code 33) _ _ (fine_some (Change (change.Read x.a)) refl) (
       fine_cond (Code 34) _ _ (fine_some (Change (change.Return x.a)) refl) fine_none))))))))))))))
 
-  fine-form : Fine (form x)
-  fine-form = fine_cond (plain (fields_of x.code) x) (cond (leb x.code 13) (expression_of x) (statement_of x)) None (fine_cond (leb x.code 13) (expression_of x) (statement_of x) fine-expression fine-statement) fine_none
+  fine_form : Fine (form x)
+  fine_form = fine_cond (plain (fields_of x.code) x) (cond (leb x.code 13) (expression_of x) (statement_of x)) None (fine_cond (leb x.code 13) (expression_of x) (statement_of x) fine_expression fine_statement) fine_none
 
 -- ---- rows that stand before p
 near_under : (lines : List Line) (p n : ℕ) → p < n → (is : List ℕ) → all (near lines p) is ≡ true → AllUnder n is
@@ -134,10 +134,10 @@ module _ (W : ℕ) (head : Typing) (rows : List SheetRow) (lines : List Line) (o
   among : (p : ℕ) → p < length rows → p < length lines
   among p lt = let l = ok.long in omega arith
 
-  written-fits : (p : ℕ) → p < length rows → written_fits (at lines p).instruction ≡ true
-  written-fits p lt =
+  written_fits_by : (p : ℕ) → p < length rows → written_fits (at lines p).instruction ≡ true
+  written_fits_by p lt =
       let passed = passes W head (eqb (p + 1) (length rows)) (take p lines) p (near (take p lines) p) (blocks (take p lines) p) (form (get_or rows p no_row)) (at lines p) (ok.lawful p lt) in
-      fine-form (get_or rows p no_row) (at lines p).instruction passed.says
+      fine_form (get_or rows p no_row) (at lines p).instruction passed.says
 
   noted : (i : ℕ) → i < length rows → Noted W head lines i
   noted i lt = sheet.typing i (among i lt)
@@ -146,56 +146,56 @@ module _ (W : ℕ) (head : Typing) (rows : List SheetRow) (lines : List Line) (o
   taken_as p x lt e = subst (λ (y : Instruction). all (near lines p) (operands y) ≡ true) e (sheet.taken p (among p lt))
 
   -- ---- the each row that an end or a continue takes on
-  resumed-noted : (i : ℕ) (u : Turn) → Noted W head lines i → AllNoted W head lines (resumed i u)
-  resumed-noted i (control.If a b) h = tt
-  resumed-noted i (control.Else b) h = tt
-  resumed-noted i (control.Loop b) h = tt
-  resumed-noted i (control.Each a b) h = (h, tt)
-  resumed-noted i (control.Test a) h = tt
-  resumed-noted i control.Break h = tt
-  resumed-noted i control.Continue h = tt
-  resumed-noted i (control.End b) h = tt
+  resumed_noted : (i : ℕ) (u : Turn) → Noted W head lines i → AllNoted W head lines (resumed i u)
+  resumed_noted i (control.If a b) h = tt
+  resumed_noted i (control.Else b) h = tt
+  resumed_noted i (control.Loop b) h = tt
+  resumed_noted i (control.Each a b) h = (h, tt)
+  resumed_noted i (control.Test a) h = tt
+  resumed_noted i control.Break h = tt
+  resumed_noted i control.Continue h = tt
+  resumed_noted i (control.End b) h = tt
 
-  reopened-noted : (i : ℕ) (x : Instruction) → Noted W head lines i → AllNoted W head lines (reopened i x)
-  reopened-noted i (Expression e) h = tt
-  reopened-noted i (Change c) h = tt
-  reopened-noted i (Control u) h = resumed-noted i u h
+  reopened_noted : (i : ℕ) (x : Instruction) → Noted W head lines i → AllNoted W head lines (reopened i x)
+  reopened_noted i (Expression e) h = tt
+  reopened_noted i (Change c) h = tt
+  reopened_noted i (Control u) h = resumed_noted i u h
 
-  advanced-noted : (target : ℕ) (x : Instruction) → (target < length rows) ⊎ (reopened target (at lines target).instruction ≡ []) → AllNoted W head lines (advanced lines target x)
-  advanced-noted target (Expression e) f = tt
-  advanced-noted target (Change c) f = tt
-  advanced-noted target (Control (control.If a b)) f = tt
-  advanced-noted target (Control (control.Else b)) f = tt
-  advanced-noted target (Control (control.Loop b)) f = tt
-  advanced-noted target (Control (control.Each a b)) f = tt
-  advanced-noted target (Control (control.Test a)) f = tt
-  advanced-noted target (Control control.Break) f = tt
-  advanced-noted target (Control control.Continue) f =
-      ⊎_elim (λ lt. reopened-noted target (at lines target).instruction (noted target lt)) (λ e. subst (AllNoted W head lines) (sym e) tt) f
-  advanced-noted target (Control (control.End b)) f =
-      ⊎_elim (λ lt. reopened-noted target (at lines target).instruction (noted target lt)) (λ e. subst (AllNoted W head lines) (sym e) tt) f
+  advanced_noted : (target : ℕ) (x : Instruction) → (target < length rows) ⊎ (reopened target (at lines target).instruction ≡ []) → AllNoted W head lines (advanced lines target x)
+  advanced_noted target (Expression e) f = tt
+  advanced_noted target (Change c) f = tt
+  advanced_noted target (Control (control.If a b)) f = tt
+  advanced_noted target (Control (control.Else b)) f = tt
+  advanced_noted target (Control (control.Loop b)) f = tt
+  advanced_noted target (Control (control.Each a b)) f = tt
+  advanced_noted target (Control (control.Test a)) f = tt
+  advanced_noted target (Control control.Break) f = tt
+  advanced_noted target (Control control.Continue) f =
+      ⊎_elim (λ lt. reopened_noted target (at lines target).instruction (noted target lt)) (λ e. subst (AllNoted W head lines) (sym e) tt) f
+  advanced_noted target (Control (control.End b)) f =
+      ⊎_elim (λ lt. reopened_noted target (at lines target).instruction (noted target lt)) (λ e. subst (AllNoted W head lines) (sym e) tt) f
 
-  opener-known : (target : ℕ) → (target < length rows) ⊎ (reopened target (at lines target).instruction ≡ [])
-  opener-known target =
+  opener_known : (target : ℕ) → (target < length rows) ⊎ (reopened target (at lines target).instruction ≡ [])
+  opener_known target =
       ⊎_elim inl
       (λ past. let l = ok.long in let k : length lines ≤ target = omega arith in inr (ap (λ (x : Line). reopened target x.instruction) (get_or_past lines target past_end k)))
       (cases_lt target (length rows))
 
   -- ---- the rows that a row reads
-  resume-under : (i : ℕ) (u : Turn) → i < length rows → (at lines i).instruction ≡ Control u → AllUnder (length rows) (resume_reads i u)
-  resume-under i (control.If a b) lt e = tt
-  resume-under i (control.Else b) lt e = tt
-  resume-under i (control.Loop b) lt e = tt
-  resume-under i (control.Each a b) lt e = (lt, near_under lines i (length rows) lt (a ∷ []) (taken_as i (Control (control.Each a b)) lt e))
-  resume-under i (control.Test a) lt e = tt
-  resume-under i control.Break lt e = tt
-  resume-under i control.Continue lt e = tt
-  resume-under i (control.End b) lt e = tt
+  resume_under : (i : ℕ) (u : Turn) → i < length rows → (at lines i).instruction ≡ Control u → AllUnder (length rows) (resume_reads i u)
+  resume_under i (control.If a b) lt e = tt
+  resume_under i (control.Else b) lt e = tt
+  resume_under i (control.Loop b) lt e = tt
+  resume_under i (control.Each a b) lt e = (lt, near_under lines i (length rows) lt (a ∷ []) (taken_as i (Control (control.Each a b)) lt e))
+  resume_under i (control.Test a) lt e = tt
+  resume_under i control.Break lt e = tt
+  resume_under i control.Continue lt e = tt
+  resume_under i (control.End b) lt e = tt
 
-  reopen-under : (i : ℕ) (x : Instruction) → i < length rows → (at lines i).instruction ≡ x → AllUnder (length rows) (reopen_reads i x)
-  reopen-under i (Expression y) lt e = tt
-  reopen-under i (Change c) lt e = tt
-  reopen-under i (Control u) lt e = resume-under i u lt e
+  reopen_under : (i : ℕ) (x : Instruction) → i < length rows → (at lines i).instruction ≡ x → AllUnder (length rows) (reopen_reads i x)
+  reopen_under i (Expression y) lt e = tt
+  reopen_under i (Change c) lt e = tt
+  reopen_under i (Control u) lt e = resume_under i u lt e
 
   reads_under : (p : ℕ) (x : Instruction) → p < length rows → (at lines p).instruction ≡ x → AllUnder (length rows) (reads lines (at lines p).target x)
   reads_under p (Expression (make.Literal k n)) lt e = tt
@@ -228,16 +228,16 @@ module _ (W : ℕ) (head : Typing) (rows : List SheetRow) (lines : List Line) (o
   reads_under p (Control control.Break) lt e = tt
   reads_under p (Control control.Continue) lt e =
       let under = (sheet.resumed p (among p lt) e).around.before in
-      reopen-under (at lines p).target (at lines (at lines p).target).instruction (omega arith) refl
+      reopen_under (at lines p).target (at lines (at lines p).target).instruction (omega arith) refl
   reads_under p (Control (control.End b)) lt e =
       let closed = sheet.ended p b (among p lt) e in
       let under = closed.1 in
       let same = closed.3 in
-      reopen-under (at lines p).target (at lines (at lines p).target).instruction (omega arith) refl
+      reopen_under (at lines p).target (at lines (at lines p).target).instruction (omega arith) refl
 
 pub accepted_safe : AcceptedSafe
 accepted_safe W line head rows lines s p a t ok roomy inside ready act =
     let x = (at lines p).instruction in
     let target = (at lines p).target in
     rows_safe W line head lines (length rows) s p a t roomy inside (reads_under W head rows lines ok p x inside refl) ready
-    (noted W head rows lines ok p inside, advanced-noted W head rows lines ok target x (opener-known W head rows lines ok target)) (written-fits W head rows lines ok p inside) act
+    (noted W head rows lines ok p inside, advanced_noted W head rows lines ok target x (opener_known W head rows lines ok target)) (written_fits_by W head rows lines ok p inside) act

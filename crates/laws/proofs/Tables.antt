@@ -150,9 +150,9 @@ module _ (W rows : ℕ) (s : State) (roomy : Roomy W rows s) where
       (law, subst Whole told.1 (length-take-le (area f) (drop (i * W) (table_of f.kind s.tables)) fits))
 
   -- rows other than i, after a write of a value into row i
-  write-others : (i : ℕ) (v : Value) (slips : List Slip) → i < rows → area v.layout ≤ W → Whole v → (j : ℕ) → (j ≡ i → ⊥) → slip_at slips j ≡ slip_at s.slips j
+  write_others : (i : ℕ) (v : Value) (slips : List Slip) → i < rows → area v.layout ≤ W → Whole v → (j : ℕ) → (j ≡ i → ⊥) → slip_at slips j ≡ slip_at s.slips j
       → value_in W slips (placed_in W s.tables i v) j ≡ value_in W s.slips s.tables j
-  write-others i v slips inside few whole j ne same =
+  write_others i v slips inside few whole j ne same =
       let n : length v.elements ≤ W = omega arith in
       let slip = slip_at s.slips j in
       ap (λ (x : Slip). valued W (placed_in W s.tables i v) j (layout_by W x x.kind)) same
@@ -160,8 +160,8 @@ module _ (W rows : ℕ) (s : State) (roomy : Roomy W rows s) where
       (λ f e. table_other W i j rows ne inside f.kind v.layout.kind s.tables v.elements (area f) (lawful_area W f (layout_lawful W slip slip.kind f e)) n (roomy.cells v.layout.kind))
 
   -- row i itself, where its slip has the layout of the value
-  write-own : (i : ℕ) (v : Value) → i < rows → area v.layout ≤ W → Whole v → value_from W (placed_in W s.tables i v) i v.layout ≡ v
-  write-own i v inside few whole =
+  write_own : (i : ℕ) (v : Value) → i < rows → area v.layout ≤ W → Whole v → value_from W (placed_in W s.tables i v) i v.layout ≡ v
+  write_own i v inside few whole =
       let k = v.layout.kind in
       let all = under_all W i rows inside in
       let long = roomy.cells k in
@@ -179,8 +179,8 @@ module _ (W rows : ℕ) (s : State) (roomy : Roomy W rows s) where
       let mine : slip_at (set s.slips i slip) i ≡ slip = get_or-set_same s.slips i slip blank_slip (omega arith) in
       let told : layout_at W (set s.slips i slip) i ≡ Some v.layout = ap (λ (x : Slip). layout_by W x x.kind) mine ∙ cond-true (lawful W v.layout) (Some v.layout) None law in
       record {
-        own = ap (valued W (placed_in W s.tables i v) i) told ∙ ap Some (write-own i v inside few whole);
-        others = λ j ne. write-others i v (set s.slips i slip) inside few whole j ne (get_or-set_other s.slips i j slip blank_slip ne);
+        own = ap (valued W (placed_in W s.tables i v) i) told ∙ ap Some (write_own i v inside few whole);
+        others = λ j ne. write_others i v (set s.slips i slip) inside few whole j ne (get_or-set_other s.slips i j slip blank_slip ne);
       }
 
   blanks : (i : ℕ) → i < rows → Stands W i None s (blanked s i)
@@ -198,8 +198,8 @@ module _ (W rows : ℕ) (s : State) (roomy : Roomy W rows s) where
       let law = layout_lawful W slip slip.kind v.layout told in
       let few = lawful_area W v.layout law in
       record {
-        own = ap (valued W (placed_in W s.tables i v) i) told ∙ ap Some (write-own i v inside few whole);
-        others = λ j ne. write-others i v s.slips inside few whole j ne refl;
+        own = ap (valued W (placed_in W s.tables i v) i) told ∙ ap Some (write_own i v inside few whole);
+        others = λ j ne. write_others i v s.slips inside few whole j ne refl;
       }
 
   faults : (t : State) (p : ℕ) → p < rows → t ≡ holding s (set s.slips p blank_slip) t.tables → FreeAt W p s.tables t.tables → Stands W p None s t

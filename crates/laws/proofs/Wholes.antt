@@ -101,11 +101,11 @@ whole W p v w h = let g = given W p v h in subst Whole g.value (w g.ruled g.orde
 
 -- ---- an operand
 record Good (v : Value) : Type 0 where
-  fixed-sizes : fixed v.layout ≡ true
+  fixed_sizes : fixed v.layout ≡ true
   long : Whole v
 
 good : (W : ℕ) (v : Value) → lawful W v.layout ≡ true → Whole v → Good v
-good W v law long = record { fixed-sizes = (and_parts (fixed v.layout) (within W v.layout.r v.layout.s) law).0; long = long }
+good W v law long = record { fixed_sizes = (and_parts (fixed v.layout) (within W v.layout.r v.layout.s) law).0; long = long }
 
 length_as : (k l : Kind) (xs : List (Cell l)) → same_kind k l ≡ true → length (elements_as k l xs) ≡ length xs
 length_as Boolean Boolean xs h = refl
@@ -150,14 +150,14 @@ cond_length false xs ys m n p q = q
 
 length_listing : (k : Kind) (v : Value) → same_kind k v.layout.kind ≡ true → not (is Matrix (exactly v)) ≡ true → Good v → length (listing k v) ≡ count v
 length_listing Boolean v same t g =
-    length_of Boolean v same g.long ∙ one_row v.layout.kind v.layout.shape v.layout.r v.layout.s g.fixed-sizes t
-    ∙ sym (no_interval Boolean v.layout.kind v.layout.shape v.layout.r v.layout.s (spanned (first v) (last v)) same refl g.fixed-sizes)
+    length_of Boolean v same g.long ∙ one_row v.layout.kind v.layout.shape v.layout.r v.layout.s g.fixed_sizes t
+    ∙ sym (no_interval Boolean v.layout.kind v.layout.shape v.layout.r v.layout.s (spanned (first v) (last v)) same refl g.fixed_sizes)
 length_listing Character v same t g =
-    length_of Character v same g.long ∙ one_row v.layout.kind v.layout.shape v.layout.r v.layout.s g.fixed-sizes t
-    ∙ sym (no_interval Character v.layout.kind v.layout.shape v.layout.r v.layout.s (spanned (first v) (last v)) same refl g.fixed-sizes)
+    length_of Character v same g.long ∙ one_row v.layout.kind v.layout.shape v.layout.r v.layout.s g.fixed_sizes t
+    ∙ sym (no_interval Character v.layout.kind v.layout.shape v.layout.r v.layout.s (spanned (first v) (last v)) same refl g.fixed_sizes)
 length_listing Integer v same t g =
     cond_length (is Interval (exactly v)) (between (first v) (last v)) (elements_of Integer v) (spanned (first v) (last v)) v.layout.s (length_tabulate (spanned (first v) (last v)) _)
-    (length_of Integer v same g.long ∙ one_row v.layout.kind v.layout.shape v.layout.r v.layout.s g.fixed-sizes t)
+    (length_of Integer v same g.long ∙ one_row v.layout.kind v.layout.shape v.layout.r v.layout.s g.fixed_sizes t)
 
 -- an index: an integer scalar, vector or interval
 length_index : (v : Value) → index (exactly v) ≡ true → Good v → length (listing Integer v) ≡ count v
@@ -211,27 +211,27 @@ whole_pair k l f a b len wa wb ruled ordered agree zs e =
 
 -- ---- one operand
 module _ (a : Value) (g : Good a) where
-  whole-prefix : (op : Prefix) → WholePlan (prefixed op a)
-  whole-prefix Minus ruled _ _ xs e =
+  whole_prefix : (op : Prefix) → WholePlan (prefixed op a)
+  whole_prefix Minus ruled _ _ xs e =
       length_collected 1 (map negated (elements_of Integer a)) xs e ∙ length-map (elements_of Integer a) negated ∙ length_of Integer a (and_parts (of Integer (exactly a)) (flat (exactly a)) ruled).0 g.long
-  whole-prefix Not ruled _ _ xs e =
+  whole_prefix Not ruled _ _ xs e =
       ok_length (map not (elements_of Boolean a)) (area a.layout) (length-map (elements_of Boolean a) not ∙ length_of Boolean a (and_parts (of Boolean (exactly a)) (flat (exactly a)) ruled).0 g.long) xs e
 
-  whole-cast : (k : Kind) → WholePlan (cast_to k a)
-  whole-cast k _ _ _ xs e = ok_length (map (cast a.layout.kind k) a.elements) (area a.layout) (length-map a.elements (cast a.layout.kind k) ∙ g.long) xs e
+  whole_cast : (k : Kind) → WholePlan (cast_to k a)
+  whole_cast k _ _ _ xs e = ok_length (map (cast a.layout.kind k) a.elements) (area a.layout) (length-map a.elements (cast a.layout.kind k) ∙ g.long) xs e
 
-  whole-measured : (m : Asked) → WholePlan (measured m a)
-  whole-measured Length _ _ _ xs e = ok_length (pos a.layout.s ∷ []) 1 refl xs e
-  whole-measured Rows _ _ _ xs e = ok_length (pos a.layout.r ∷ []) 1 refl xs e
-  whole-measured Columns _ _ _ xs e = ok_length (pos a.layout.s ∷ []) 1 refl xs e
-  whole-measured Reverse _ _ _ xs e = ok_length (reverse a.elements) (area a.layout) (length-reverse a.elements ∙ g.long) xs e
-  whole-measured Single ruled _ _ xs e = ok_length a.elements 1 (g.long ∙ scalar_area a.layout.kind a.layout.shape a.layout.r a.layout.s g.fixed-sizes ruled) xs e
+  whole_measured : (m : Asked) → WholePlan (measured m a)
+  whole_measured Length _ _ _ xs e = ok_length (pos a.layout.s ∷ []) 1 refl xs e
+  whole_measured Rows _ _ _ xs e = ok_length (pos a.layout.r ∷ []) 1 refl xs e
+  whole_measured Columns _ _ _ xs e = ok_length (pos a.layout.s ∷ []) 1 refl xs e
+  whole_measured Reverse _ _ _ xs e = ok_length (reverse a.elements) (area a.layout) (length-reverse a.elements ∙ g.long) xs e
+  whole_measured Single ruled _ _ xs e = ok_length a.elements 1 (g.long ∙ scalar_area a.layout.kind a.layout.shape a.layout.r a.layout.s g.fixed_sizes ruled) xs e
 
-  whole-copied : WholePlan (copied a)
-  whole-copied _ _ _ xs e = ok_length a.elements (area a.layout) g.long xs e
+  whole_copied : WholePlan (copied a)
+  whole_copied _ _ _ xs e = ok_length a.elements (area a.layout) g.long xs e
 
-  whole-resized : (r s : Size) → WholePlan (resized_to r s a)
-  whole-resized r s _ _ _ xs e =
+  whole_resized : (r s : Size) → WholePlan (resized_to r s a)
+  whole_resized r s _ _ _ xs e =
       let k = a.layout.kind in
       let rows = rows_of a.layout.r a.layout.s a.elements in
       ok_length (resized (null_of k) (size_or r 0) (size_or s 0) rows) (size_or r 0 * size_or s 0) (length_resized_all (null_of k) (size_or r 0) (size_or s 0) rows) xs e
@@ -254,21 +254,21 @@ product_long true x y r s p q = p
 product_long false x y r s p q = q
 
 module _ (a b : Value) (ga : Good a) (gb : Good b) where
-  whole-equated : (op : Equality) → WholePlan (equated op a b)
-  whole-equated op _ _ _ xs e = ok_length (says op (all_equal a b) ∷ []) 1 refl xs e
+  whole_equated : (op : Equality) → WholePlan (equated op a b)
+  whole_equated op _ _ _ xs e = ok_length (says op (all_equal a b) ∷ []) 1 refl xs e
 
-  whole-joined : WholePlan (joined a b)
-  whole-joined ruled _ _ xs e =
+  whole_joined : WholePlan (joined a b)
+  whole_joined ruled _ _ xs e =
       let x = a.layout in
       let y = b.layout in
       let p = and_parts (of x.kind (exactly b)) (joins (exactly a) && joins (exactly b)) ruled in
       let q = and_parts (joins (exactly a)) (joins (exactly b)) p.1 in
-      let la = ga.long ∙ one_row x.kind x.shape x.r x.s ga.fixed-sizes (joins_row x.shape q.0) in
-      let lb = length_of x.kind b p.0 gb.long ∙ one_row y.kind y.shape y.r y.s gb.fixed-sizes (joins_row y.shape q.1) in
+      let la = ga.long ∙ one_row x.kind x.shape x.r x.s ga.fixed_sizes (joins_row x.shape q.0) in
+      let lb = length_of x.kind b p.0 gb.long ∙ one_row y.kind y.shape y.r y.s gb.fixed_sizes (joins_row y.shape q.1) in
       ok_length (a.elements ++ elements_of x.kind b) (1 * (x.s + y.s)) (length-append a.elements (elements_of x.kind b) ∙ omega arith) xs e
 
-  whole-multiplied : WholePlan (multiplied a b)
-  whole-multiplied _ _ _ xs e =
+  whole_multiplied : WholePlan (multiplied a b)
+  whole_multiplied _ _ _ xs e =
       let v = is Vector (exactly a) in
       let xa = elements_of Integer a in
       let xb = elements_of Integer b in
@@ -280,8 +280,8 @@ module _ (a b : Value) (ga : Good a) (gb : Good b) where
       ∙ product_long v one (products r m s xa xb) r s refl
       (length_joined r s (λ i. tabulate s (λ j. dot (row_at xa m i) (column_at xb m s j))) (λ i. length_tabulate s (λ j. dot (row_at xa m i) (column_at xb m s j))))
 
-  whole-stepped : WholePlan (stepped_by a b)
-  whole-stepped ruled _ _ xs e =
+  whole_stepped : WholePlan (stepped_by a b)
+  whole_stepped ruled _ _ xs e =
       let k = a.layout.kind in
       let p = and_parts (is Vector (exactly a) || is Interval (exactly a)) (alone Integer (exactly b)) ruled in
       let n = amount (first b) in
@@ -289,27 +289,27 @@ module _ (a b : Value) (ga : Good a) (gb : Good b) where
       ok_length (stepped (null_of k) n (listing k a)) (1 * step_count (count a) n)
       (length_tabulate (step_count (length (listing k a)) n) _ ∙ ap (λ (m : ℕ). step_count m n) l ∙ sym (one-mul (step_count (count a) n))) xs e
 
-  whole-infixed : (op : Infix) → WholePlan (infixed op a b)
-  whole-infixed (family.Arithmetic op) = whole_pair Integer Integer (λ xs ys. collected 1 (map2 (exact op) xs ys)) a b (λ n xs ys zs p q e. length_collected 1 (map2 (exact op) xs ys) zs e ∙ length_map2 (exact op) xs ys n p q) ga.long gb.long
-  whole-infixed (family.Order op) = whole_pair Integer Boolean (λ xs ys. Ok (map2 (ordered op) xs ys)) a b (λ n xs ys zs p q e. ok_length (map2 (ordered op) xs ys) n (length_map2 (ordered op) xs ys n p q) zs e) ga.long gb.long
-  whole-infixed (family.Logic op) = whole_pair Boolean Boolean (λ xs ys. Ok (map2 (decided op) xs ys)) a b (λ n xs ys zs p q e. ok_length (map2 (decided op) xs ys) n (length_map2 (decided op) xs ys n p q) zs e) ga.long gb.long
-  whole-infixed (family.Equality op) = whole-equated op
-  whole-infixed family.Join = whole-joined
-  whole-infixed family.Product = whole-multiplied
-  whole-infixed family.By = whole-stepped
+  whole_infixed : (op : Infix) → WholePlan (infixed op a b)
+  whole_infixed (family.Arithmetic op) = whole_pair Integer Integer (λ xs ys. collected 1 (map2 (exact op) xs ys)) a b (λ n xs ys zs p q e. length_collected 1 (map2 (exact op) xs ys) zs e ∙ length_map2 (exact op) xs ys n p q) ga.long gb.long
+  whole_infixed (family.Order op) = whole_pair Integer Boolean (λ xs ys. Ok (map2 (ordered op) xs ys)) a b (λ n xs ys zs p q e. ok_length (map2 (ordered op) xs ys) n (length_map2 (ordered op) xs ys n p q) zs e) ga.long gb.long
+  whole_infixed (family.Logic op) = whole_pair Boolean Boolean (λ xs ys. Ok (map2 (decided op) xs ys)) a b (λ n xs ys zs p q e. ok_length (map2 (decided op) xs ys) n (length_map2 (decided op) xs ys n p q) zs e) ga.long gb.long
+  whole_infixed (family.Equality op) = whole_equated op
+  whole_infixed family.Join = whole_joined
+  whole_infixed family.Product = whole_multiplied
+  whole_infixed family.By = whole_stepped
 
-  whole-interval : WholePlan (interval a b)
-  whole-interval _ _ _ xs e = ok_length (first a ∷ first b ∷ []) 2 refl xs e
+  whole_interval : WholePlan (interval a b)
+  whole_interval _ _ _ xs e = ok_length (first a ∷ first b ∷ []) 2 refl xs e
 
-  whole-stack : WholePlan (stack a b)
-  whole-stack _ _ _ xs e =
+  whole_stack : WholePlan (stack a b)
+  whole_stack _ _ _ xs e =
       let k = a.layout.kind in
       let n = max a.layout.s b.layout.s in
       ok_length (stacked (null_of k) n (rows_of a.layout.r a.layout.s a.elements) (elements_of k b)) ((a.layout.r + 1) * n)
       (length_stacked (null_of k) a.layout.r a.layout.s n a.elements (elements_of k b)) xs e
 
-  whole-pick : WholePlan (pick a b)
-  whole-pick ruled _ _ xs e =
+  whole_pick : WholePlan (pick a b)
+  whole_pick ruled _ _ xs e =
       let p = and_parts (is Vector (exactly a)) (index (exactly b)) ruled in
       let js = listing Integer b in
       ok_length (picked (null_of a.layout.kind) a.elements js) (1 * count b) (length-map js _ ∙ length_index b p.1 gb ∙ sym (one-mul (count b))) xs e
@@ -329,7 +329,7 @@ whole_pick_two a b c gb gc ruled _ _ xs e =
     let lc = length_index c q.1 gc in
     ok_length (crossed (null_of a.layout.kind) a.layout.s a.elements is' js) (cond t 1 (count b) * cond t (count b) (count c))
     (length_crossed (null_of a.layout.kind) a.layout.s a.elements is' js ∙ (λ i. lb i * lc i)
-    ∙ pick_long t (count b) (count c) (λ h. scalar_count c.layout.kind c.layout.shape c.layout.r c.layout.s (spanned (first c) (last c)) gc.fixed-sizes h)) xs e
+    ∙ pick_long t (count b) (count c) (λ h. scalar_count c.layout.kind c.layout.shape c.layout.r c.layout.s (spanned (first c) (last c)) gc.fixed_sizes h)) xs e
 
 -- ---- rows that change a variable
 whole_nulls : (w : Typing) → WholePlan (nulls w)
@@ -399,7 +399,7 @@ whole_assigned a v ga gv ruled _ agree xs e =
     (λ no' more.
     let both = apart_long al sc (is Interval (exactly v)) (is Vector w) (is Matrix w) p.1 no' more in
     length_listing k v p.0 (interval_row y.shape both.0) gv ∙ eqb-true (count v) x.s (agree_apart al sc m (eqb (count v) x.s) agree no' more)
-    ∙ sym (vector_row k x.shape x.r x.s ga.fixed-sizes both.1))) xs e
+    ∙ sym (vector_row k x.shape x.r x.s ga.fixed_sizes both.1))) xs e
 
 whole_stored : (a b c : Value) → Whole a → WholePlan (stored_at a b c)
 whole_stored a b c wa _ _ _ xs e =
@@ -419,37 +419,37 @@ with_gives None f v h = absurd (let z : ◌≡◌ {A = ℕ} 0 1 = cc in omega ar
 with_gives (Some u) f v h = (u, refl, h)
 
 module _ (W : ℕ) (at : ℕ → Option Value) where
-  good-at : (i : ℕ) (u : Value) → WholeAt W at i → at i ≡ Some u → Good u
-  good-at i u all e = good W u (all u e).0 (all u e).1
+  good_at : (i : ℕ) (u : Value) → WholeAt W at i → at i ≡ Some u → Good u
+  good_at i u all e = good W u (all u e).0 (all u e).1
 
-  one-whole : (a : ℕ) (p : Value → Plan) (v : Value) → WholeAt W at a → ((u : Value) → Good u → WholePlan (p u)) → by1 W at a p ≡ gives v → Whole v
-  one-whole a p v wa w h =
+  one_whole : (a : ℕ) (p : Value → Plan) (v : Value) → WholeAt W at a → ((u : Value) → Good u → WholePlan (p u)) → by1 W at a p ≡ gives v → Whole v
+  one_whole a p v wa w h =
       let r = with_gives (at a) (λ u. outcome W (p u)) v h in
-      whole W (p r.0) v (w r.0 (good-at a r.0 wa r.1)) r.2
+      whole W (p r.0) v (w r.0 (good_at a r.0 wa r.1)) r.2
 
-  two-whole : (a b : ℕ) (p : Value → Value → Plan) (v : Value) → WholeAt W at a → WholeAt W at b → ((t u : Value) → Good t → Good u → WholePlan (p t u)) → by2 W at a b p ≡ gives v → Whole v
-  two-whole a b p v wa wb w h =
+  two_whole : (a b : ℕ) (p : Value → Value → Plan) (v : Value) → WholeAt W at a → WholeAt W at b → ((t u : Value) → Good t → Good u → WholePlan (p t u)) → by2 W at a b p ≡ gives v → Whole v
+  two_whole a b p v wa wb w h =
       let r = with_gives (at a) (λ t. by1 W at b (p t)) v h in
-      one-whole b (p r.0) v wb (λ u g. w r.0 u (good-at a r.0 wa r.1) g) r.2
+      one_whole b (p r.0) v wb (λ u g. w r.0 u (good_at a r.0 wa r.1) g) r.2
 
-  three-whole : (a b c : ℕ) (p : Value → Value → Value → Plan) (v : Value) → WholeAt W at a → WholeAt W at b → WholeAt W at c → ((s t u : Value) → Good s → Good t → Good u → WholePlan (p s t u)) → by3 W at a b c p ≡ gives v → Whole v
-  three-whole a b c p v wa wb wc w h =
+  three_whole : (a b c : ℕ) (p : Value → Value → Value → Plan) (v : Value) → WholeAt W at a → WholeAt W at b → WholeAt W at c → ((s t u : Value) → Good s → Good t → Good u → WholePlan (p s t u)) → by3 W at a b c p ≡ gives v → Whole v
+  three_whole a b c p v wa wb wc w h =
       let r = with_gives (at a) (λ s. by2 W at b c (p s)) v h in
-      two-whole b c (p r.0) v wb wc (λ t u g. w r.0 t u (good-at a r.0 wa r.1) g) r.2
+      two_whole b c (p r.0) v wb wc (λ t u g. w r.0 t u (good_at a r.0 wa r.1) g) r.2
 
   whole_row : (stream : StreamState) (e : Make) (v : Value) → AllWhole W at (make_reads e) → evaluated W at stream e ≡ gives v → Whole v
   whole_row stream (make.Literal k z) v r h = whole W (literal k z) v (λ _ _ _ xs e. ok_length (cast Integer k z ∷ []) 1 refl xs e) h
   whole_row stream (make.Empty k) v r h = whole W (empty k) v (λ _ _ _ xs e. ok_length [] 0 refl xs e) h
-  whole_row stream (make.Variable a) v r h = one-whole a copied v r.0 whole-copied h
-  whole_row stream (make.Prefix op a) v r h = one-whole a (prefixed op) v r.0 (λ u g. whole-prefix u g op) h
-  whole_row stream (make.Infix op a b) v r h = two-whole a b (infixed op) v r.0 r.1.0 (λ t u g k. whole-infixed t u g k op) h
-  whole_row stream (make.Interval a b) v r h = two-whole a b interval v r.0 r.1.0 whole-interval h
-  whole_row stream (make.Stack a b) v r h = two-whole a b stack v r.0 r.1.0 whole-stack h
-  whole_row stream (make.Pick a b) v r h = two-whole a b pick v r.0 r.1.0 whole-pick h
-  whole_row stream (make.PickTwo a b c) v r h = three-whole a b c pick_two v r.0 r.1.0 r.1.1.0 (λ s t u g k l. whole_pick_two s t u k l) h
-  whole_row stream (make.Measure m a) v r h = one-whole a (measured m) v r.0 (λ u g. whole-measured u g m) h
-  whole_row stream (make.Cast k a) v r h = one-whole a (cast_to k) v r.0 (λ u g. whole-cast u g k) h
-  whole_row stream (make.Resize a x y) v r h = one-whole a (resized_to x y) v r.0 (λ u g. whole-resized u g x y) h
+  whole_row stream (make.Variable a) v r h = one_whole a copied v r.0 whole_copied h
+  whole_row stream (make.Prefix op a) v r h = one_whole a (prefixed op) v r.0 (λ u g. whole_prefix u g op) h
+  whole_row stream (make.Infix op a b) v r h = two_whole a b (infixed op) v r.0 r.1.0 (λ t u g k. whole_infixed t u g k op) h
+  whole_row stream (make.Interval a b) v r h = two_whole a b interval v r.0 r.1.0 whole_interval h
+  whole_row stream (make.Stack a b) v r h = two_whole a b stack v r.0 r.1.0 whole_stack h
+  whole_row stream (make.Pick a b) v r h = two_whole a b pick v r.0 r.1.0 whole_pick h
+  whole_row stream (make.PickTwo a b c) v r h = three_whole a b c pick_two v r.0 r.1.0 r.1.1.0 (λ s t u g k l. whole_pick_two s t u k l) h
+  whole_row stream (make.Measure m a) v r h = one_whole a (measured m) v r.0 (λ u g. whole_measured u g m) h
+  whole_row stream (make.Cast k a) v r h = one_whole a (cast_to k) v r.0 (λ u g. whole_cast u g k) h
+  whole_row stream (make.Resize a x y) v r h = one_whole a (resized_to x y) v r.0 (λ u g. whole_resized u g x y) h
   whole_row stream make.State v r h = whole W (streamed stream) v (λ _ _ _ xs e. ok_length (pos (state_number stream) ∷ []) 1 refl xs e) h
 
 pub wholes : Wholes

@@ -54,24 +54,24 @@ module _ (p : Place) (i : ℕ) (May : Tables → Tables → Type 0) (t u : Table
     tests x h = passed q.ruled q.ordered (fits p.width q.counted q.layout) q.agree told q.layout x h
 
     module _ (x : Layout) (h : guarded p q ≡ Ok x) where
-      by-told : (r : Result Layout Fault) → Left p i May told t r u → Left p i May (outcome p.width q) t r u
-      by-told r m = subst (λ (o : Outcome). Left p i May o t r u) (sym (tests x h).0) m
+      by_told : (r : Result Layout Fault) → Left p i May told t r u → Left p i May (outcome p.width q) t r u
+      by_told r m = subst (λ (o : Outcome). Left p i May o t r u) (sym (tests x h).0) m
 
       -- the elements are written
       pub left_value : (xs : List (Cell q.layout.kind)) → q.outside ≡ None → q.elements ≡ Ok xs → u ≡ placed_in p.width t i (value_of q.layout xs) → Left p i May (outcome p.width q) t (Ok x) u
       left_value xs none all e =
-          by-told (Ok x) (subst (λ (o : Outcome). Left p i May o t (Ok x) u) (sym (ap (λ (m : Option ℕ). unless_outside m (finished q.layout q.elements)) none ∙ ap (finished q.layout) all))
+          by_told (Ok x) (subst (λ (o : Outcome). Left p i May o t (Ok x) u) (sym (ap (λ (m : Option ℕ). unless_outside m (finished q.layout q.elements)) none ∙ ap (finished q.layout) all))
           (ap Ok (sym (tests x h).1), e))
 
       -- an index is outside
       pub left_outside : (k : ℕ) → q.outside ≡ Some k → May t u → Left p i May (outcome p.width q) t (Err (fault_at p Index k)) u
       left_outside k some m =
-          by-told (Err (fault_at p Index k)) (subst (λ (o : Outcome). Left p i May o t (Err (fault_at p Index k)) u) (sym (ap (λ (m : Option ℕ). unless_outside m (finished q.layout q.elements)) some)) (refl, m))
+          by_told (Err (fault_at p Index k)) (subst (λ (o : Outcome). Left p i May o t (Err (fault_at p Index k)) u) (sym (ap (λ (m : Option ℕ). unless_outside m (finished q.layout q.elements)) some)) (refl, m))
 
       -- an element has no result
       pub left_element : (e : ElementFault) → q.outside ≡ None → q.elements ≡ Err e → May t u → Left p i May (outcome p.width q) t (Err (fault_at p (Arithmetic e.fault) e.element)) u
       left_element e none bad m =
-          by-told (Err (fault_at p (Arithmetic e.fault) e.element)) (subst (λ (o : Outcome). Left p i May o t (Err (fault_at p (Arithmetic e.fault) e.element)) u) (sym (ap (λ (m : Option ℕ). unless_outside m (finished q.layout q.elements)) none ∙ ap (finished q.layout) bad)) (refl, m))
+          by_told (Err (fault_at p (Arithmetic e.fault) e.element)) (subst (λ (o : Outcome). Left p i May o t (Err (fault_at p (Arithmetic e.fault) e.element)) u) (sym (ap (λ (m : Option ℕ). unless_outside m (finished q.layout q.elements)) none ∙ ap (finished q.layout) bad)) (refl, m))
 
   -- operands
   module _ (slips : List Slip) (a : ℕ) (f : Value → Outcome) where
@@ -79,9 +79,9 @@ module _ (p : Place) (i : ℕ) (May : Tables → Tables → Type 0) (t u : Table
     missing_at None e h m = (sym h, m)
     missing_at (Some x) e h m = absurd (let z : ◌≡◌ {A = ℕ} 0 1 = cc in omega arith)
 
-    there-at : (o : Option Layout) (x : Layout) (r : Result Layout Fault) → found p o ≡ Ok x → Left p i May (f (value_from p.width t a x)) t r u → Left p i May (with (valued p.width t a o) f) t r u
-    there-at None x r h m = absurd (let z : ◌≡◌ {A = ℕ} 0 1 = cc in omega arith)
-    there-at (Some y) x r h m = let e : x ≡ y = cc in subst (λ (z : Layout). Left p i May (f (value_from p.width t a z)) t r u) e m
+    there_at : (o : Option Layout) (x : Layout) (r : Result Layout Fault) → found p o ≡ Ok x → Left p i May (f (value_from p.width t a x)) t r u → Left p i May (with (valued p.width t a o) f) t r u
+    there_at None x r h m = absurd (let z : ◌≡◌ {A = ℕ} 0 1 = cc in omega arith)
+    there_at (Some y) x r h m = let e : x ≡ y = cc in subst (λ (z : Layout). Left p i May (f (value_from p.width t a z)) t r u) e m
 
     -- there is no value at row a
     pub missing : (e : Fault) → found p (layout_at p.width slips a) ≡ Err e → May t u → Left p i May (with (value_in p.width slips t a) f) t (Err e) u
@@ -89,7 +89,7 @@ module _ (p : Place) (i : ℕ) (May : Tables → Tables → Type 0) (t u : Table
 
     -- there is one
     pub there : (x : Layout) (r : Result Layout Fault) → found p (layout_at p.width slips a) ≡ Ok x → Left p i May (f (value_from p.width t a x)) t r u → Left p i May (with (value_in p.width slips t a) f) t r u
-    there x r h m = there-at (layout_at p.width slips a) x r h m
+    there x r h m = there_at (layout_at p.width slips a) x r h m
 
 -- ---- cells that a fault leaves free
 pub free_elsewhere : {X : Type 0} (W i to n : ℕ) (xs ys : List X) → to ≡ i * W → n ≤ W → length ys ≡ length xs → take to ys ≡ take to xs → drop (to + n) ys ≡ drop (to + n) xs → Elsewhere W i xs ys

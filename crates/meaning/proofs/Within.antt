@@ -21,25 +21,25 @@ Within W (gives v) = within W v.layout.r v.layout.s ≡ true
 Within W (faults c element) = Unit {0}
 
 module _ (W : ℕ) where
-  finished-within : (f : Layout) (xs : Result (List (Cell f.kind)) ElementFault) → within W f.r f.s ≡ true → Within W (finished f xs)
-  finished-within f (Ok xs) h = h
-  finished-within f (Err e) h = tt
+  finished_within : (f : Layout) (xs : Result (List (Cell f.kind)) ElementFault) → within W f.r f.s ≡ true → Within W (finished f xs)
+  finished_within f (Ok xs) h = h
+  finished_within f (Err e) h = tt
 
-  outside-within : (o : Option ℕ) (u : Outcome) → Within W u → Within W (unless_outside o u)
-  outside-within None u h = h
-  outside-within (Some k) u h = tt
+  outside_within : (o : Option ℕ) (u : Outcome) → Within W u → Within W (unless_outside o u)
+  outside_within None u h = h
+  outside_within (Some k) u h = tt
 
-  unless-within : (b : Bool) (c : Cause) (u : Outcome) → (b ≡ true → Within W u) → Within W (unless b c u)
-  unless-within true c u h = h refl
-  unless-within false c u h = tt
+  unless_within : (b : Bool) (c : Cause) (u : Outcome) → (b ≡ true → Within W u) → Within W (unless b c u)
+  unless_within true c u h = h refl
+  unless_within false c u h = tt
 
   pub outcome_within : (q : Plan) → Within W (outcome W q)
   outcome_within q =
-      unless-within q.ruled NoRule _ (λ _.
-      unless-within q.ordered Disordered _ (λ _.
-      unless-within (fits W q.counted q.layout) Beyond _ (λ f.
-      unless-within q.agree SizesDiffer _ (λ _.
-      outside-within q.outside (finished q.layout q.elements) (finished-within q.layout q.elements (and_parts (count_fits W q.counted) (within W q.layout.r q.layout.s) f).1)))))
+      unless_within q.ruled NoRule _ (λ _.
+      unless_within q.ordered Disordered _ (λ _.
+      unless_within (fits W q.counted q.layout) Beyond _ (λ f.
+      unless_within q.agree SizesDiffer _ (λ _.
+      outside_within q.outside (finished q.layout q.elements) (finished_within q.layout q.elements (and_parts (count_fits W q.counted) (within W q.layout.r q.layout.s) f).1)))))
 
   pub with_within : (o : Option Value) (f : Value → Outcome) → ((v : Value) → Within W (f v)) → Within W (with o f)
   with_within None f h = tt

@@ -9,12 +9,12 @@ use Rattle.picks.specs.declared.indices.Index.{Index}
 use Rattle.picks.specs.declared.indices.Index.TheVariants.{Cells, Interval}
 use Rattle.element.specs.Cells.{cells}
 use Rattle.picks.specs.Indices.{spanned, between, index_count, indices_of, IndexBelow, IndexAbove, place_of, inside, first_outside, or_else, first_outside2, AllInside}
-use Rattle.element.proofs.Writes.{length_cells, get_d_cells, cells_take}
+use Rattle.element.proofs.Writes.{length_cells, get_or_cells, cells_take}
 
 pub at_cells : (index : Index) (T : List ℤ) (z y : ℤ) (at n k : ℕ) → index ≡ Cells at n → k < index_count index → z ≡ y → y ≡ get_or T (at + k) (pos 0) → z ≡ get_or (indices_of index T) k (pos 0)
 at_cells index T z y at n k e h same is =
     let P : Index → Type 0 = λ i. k < index_count i in
-    same ∙ is ∙ sym (get_d_cells T at n k (pos 0) (subst P e h)) ∙ ap (λ (i : Index). get_or (indices_of i T) k (pos 0)) (sym e)
+    same ∙ is ∙ sym (get_or_cells T at n k (pos 0) (subst P e h)) ∙ ap (λ (i : Index). get_or (indices_of i T) k (pos 0)) (sym e)
 
 pub at_interval : (index : Index) (T : List ℤ) (z low high : ℤ) (k : ℕ) → index ≡ Interval low high → k < index_count index → z ≡ low +ℤ pos k → z ≡ get_or (indices_of index T) k (pos 0)
 at_interval index T z low high k e h is =
@@ -115,8 +115,8 @@ module _ (low high : ℤ) (b : ℕ) where
   pub length_step_between : length (stepped (pos 0) b (between low high)) ≡ step_count (spanned low high) b
   length_step_between = length-map-range_with_len _ 0 (step_count (length (between low high)) b) ∙ ap (λ (m : ℕ). step_count m b) length_between
 
-  pub get_d_step_between : (k : ℕ) (d : ℤ) → 0 < b → k < step_count (spanned low high) b → get_or (stepped (pos 0) b (between low high)) k d ≡ low +ℤ pos (k * b)
-  get_d_step_between k d some l =
+  pub get_or_step_between : (k : ℕ) (d : ℤ) → 0 < b → k < step_count (spanned low high) b → get_or (stepped (pos 0) b (between low high)) k d ≡ low +ℤ pos (k * b)
+  get_or_step_between k d some l =
       let i : k * b < spanned low high = step_within (spanned low high) b k some l in
       let j : k < step_count (length (between low high)) b = rw length_between l in
       get_or-map-range_with_len (λ k. get_or (between low high) (k * b) (pos 0)) 0 (step_count (length (between low high)) b) k k d j (omega arith)

@@ -6,7 +6,7 @@ use Rattle.picks.specs.declared.indices.Outside.{Outside}
 use Rattle.element.specs.Cells.{put, cells, joined}
 use Rattle.picks.specs.Indices.{place_of}
 use Rattle.picks.specs.Picks.{picked, crossed, Guarded}
-use Rattle.element.proofs.Writes.{copy_more, get_d_cells, cells_below}
+use Rattle.element.proofs.Writes.{copy_more, get_or_cells, cells_below}
 use Rattle.element.proofs.Lines.{row_below, cells_cells, Wide, line_more}
 
 module _ {X : Type 0} (null : X) (T : List X) (from have to : ℕ) (js : List ℤ) where
@@ -20,7 +20,7 @@ module _ {X : Type 0} (null : X) (T : List X) (from have to : ℕ) (js : List �
       copy_more T to (picked null (cells T from have) js) S i (from + place) x s read (omega arith) within (omega arith)
       (get_or-map (λ j. get_or (cells T from have) (place_of j) null) js i (pos 0) x more
       ∙ ap (λ (k : ℕ). get_or (cells T from have) k null) (sym at)
-      ∙ get_d_cells T from have place null inside
+      ∙ get_or_cells T from have place null inside
       ∙ get_or_default T (from + place) null x (omega arith))
 
 -- the two ends of a guarded write
@@ -36,8 +36,8 @@ module _ {X : Type 0} (null : X) (T : List X) (from r s to : ℕ) (is js : List 
   abbrev pub lines : List (List X)
   lines = map (λ i. picked null (cells (cells T from (r * s)) (place_of i * s) s) js) is
 
-  pub get_d_lines : (k : ℕ) → k < length is → place_of (get_or is k (pos 0)) < r → get_or lines k [] ≡ picked null (cells T (from + place_of (get_or is k (pos 0)) * s) s) js
-  get_d_lines k h l =
+  pub get_or_lines : (k : ℕ) → k < length is → place_of (get_or is k (pos 0)) < r → get_or lines k [] ≡ picked null (cells T (from + place_of (get_or is k (pos 0)) * s) s) js
+  get_or_lines k h l =
       get_or-map (λ i. picked null (cells (cells T from (r * s)) (place_of i * s) s) js) is k (pos 0) [] h
       ∙ ap (λ (xs : List X). picked null xs js) (cells_cells T from (r * s) (place_of (get_or is k (pos 0)) * s) s (row_below (place_of (get_or is k (pos 0))) r s s l (le_refl s)))
 
@@ -55,7 +55,7 @@ module _ {X : Type 0} (null : X) (T : List X) (from r s to : ℕ) (is js : List 
       line_more T S U to w k lines (wide_lines w e) (omega arith) within s'
       (u ∙ ap (λ (xs : List X). put S (to + k * w) (picked null xs js)) (ap (λ (xs : List X). cells xs (from + row * s) s) s' ∙ cells_below T (joined (take k lines)) to (from + row * s) s low within)
       ∙ ap (λ (p : ℕ). put S (to + k * w) (picked null (cells T (from + p * s) s) js)) at
-      ∙ ap (put S (to + k * w)) (sym (get_d_lines k h (subst P at inside))))
+      ∙ ap (put S (to + k * w)) (sym (get_or_lines k h (subst P at inside))))
 
   pub cross_all : (S : List X) (k : ℕ) → length is ≤ k → S ≡ put T to (joined (take k lines)) → S ≡ put T to (crossed null s (cells T from (r * s)) is js)
   cross_all S k h e = e ∙ ap (λ (ls : List (List X)). put T to (joined ls)) (take_all k lines (omega (arith, length-map is (λ i. picked null (cells (cells T from (r * s)) (place_of i * s) s) js))))

@@ -8,7 +8,7 @@ use Rattle.element.specs.Cells.{put, cells}
 use Rattle.picks.specs.Indices.{place_of, inside, first_outside, or_else, first_outside2}
 use Rattle.picks.specs.Stores.{stored, value_place, values_of}
 use Rattle.element.proofs.Lines.{row_below}
-use Rattle.element.proofs.Writes.{length_cells, get_d_cells, drop_beyond}
+use Rattle.element.proofs.Writes.{length_cells, get_or_cells, drop_beyond}
 
 module _ {X : Type 0} where
   -- a cell written within a run that was written
@@ -62,11 +62,11 @@ module _ {X : Type 0} where
   pub length_values : (null : X) (T : List X) (v : Values) (n : ℕ) → v.at + n ≤ length T → length (values_of null T v n) ≡ n
   length_values null T v n h = cond_both v.spread _ _ (λ (xs : List X). length xs ≡ n) (λ _. length-replicate n _) (λ _. length_cells T v.at n h)
 
-  pub get_d_values : (null : X) (T : List X) (v : Values) (n k : ℕ) (d : X) → k < n → v.at + n ≤ length T → get_or (values_of null T v n) k d ≡ get_or T (value_place v k) d
-  get_d_values null T v n k d l h =
+  pub get_or_values : (null : X) (T : List X) (v : Values) (n k : ℕ) (d : X) → k < n → v.at + n ≤ length T → get_or (values_of null T v n) k d ≡ get_or T (value_place v k) d
+  get_or_values null T v n k d l h =
       elim v.spread as (λ b. get_or (cond b (replicate n (get_or T v.at null)) (cells T v.at n)) k d ≡ get_or T (cond b v.at (v.at + k)) d) [
         | true ↦ get_or-replicate n k _ d l ∙ get_or_default T v.at null d (omega arith)
-        | false ↦ get_d_cells T v.at n k d l
+        | false ↦ get_or_cells T v.at n k d l
       ]
 
   -- a turn that stores the k-th value
@@ -81,7 +81,7 @@ module _ {X : Type 0} where
       let m : length vs ≡ n = length_values null T v n within in
       let r : length R ≡ have = length_stored (cells T to have) (take k js) (take k vs) ∙ length_cells T to have (omega arith) in
       let p : to + have ≤ value_place v k = cond_both v.spread _ _ (λ (q : ℕ). to + have ≤ q) (λ _. above) (λ _. omega arith) in
-      let is : x ≡ get_or vs k x = read ∙ ap (λ (xs : List X). get_or xs (value_place v k) x) s ∙ read_above T R to have (value_place v k) x r (omega arith) p ∙ sym (get_d_values null T v n k x h within) in
+      let is : x ≡ get_or vs k x = read ∙ ap (λ (xs : List X). get_or xs (value_place v k) x) s ∙ read_above T R to have (value_place v k) x r (omega arith) p ∙ sym (get_or_values null T v n k x h within) in
       let e : suc k ≡ k + 1 = omega arith in
       ap (λ (xs : List X). set xs (to + place) x) s
       ∙ set_put T R to place x (omega arith) (omega arith)

@@ -4,7 +4,7 @@ use Rattle.std.proofs.lemmas.List.FromFn.{length-map-range_with_len}
 use Rattle.std.proofs.lemmas.List.{append-nil, length-append, length-map, take-map, get_or-map, take_all}
 use Rattle.element.specs.Cells.{put, cells, joined, rows_of}
 use Rattle.element.proofs.Lines.{joined_more, row_of}
-use Rattle.element.proofs.Writes.{put_put, put_one, put_more, length_cells, get_d_cells}
+use Rattle.element.proofs.Writes.{put_put, put_one, put_more, length_cells, get_or_cells}
 use Rattle.print.specs.Texts.{spaced, bracketed, gap, vector_text}
 
 abbrev behind : List ℕ → List ℕ
@@ -80,7 +80,7 @@ module _ {X : Type 0} (text : X → List ℕ) (T : List X) (at n : ℕ) where
   pub text_at : (k : ℕ) (x : X) → k < n → at + n ≤ length T → x ≡ get_or T (at + k) x → get_or (map text (cells T at n)) k [] ≡ text x
   text_at k x h within is =
       let l : k < length (cells T at n) = omega (arith, length_cells T at n within) in
-      get_or-map text (cells T at n) k x [] l ∙ ap text (get_d_cells T at n k x h ∙ sym is)
+      get_or-map text (cells T at n) k x [] l ∙ ap text (get_or_cells T at n k x h ∙ sym is)
 
   pub length_texts : at + n ≤ length T → length (map text (cells T at n)) ≡ n
   length_texts within = length-map (cells T at n) text ∙ length_cells T at n within

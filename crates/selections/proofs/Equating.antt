@@ -8,7 +8,7 @@ use Rattle.types.specs.Types.{same_kind}
 use Rattle.types.specs.Typings.{is, of, pairs, matches_spread}
 use Rattle.instruction.specs.declared.instructions.Equality.{Equality}
 use Rattle.element.specs.Cells.{cells}
-use Rattle.element.proofs.Writes.{get_d_cells}
+use Rattle.element.proofs.Writes.{get_or_cells}
 use Rattle.meaning.specs.declared.layouts.Layout.{Layout}
 use Rattle.meaning.specs.declared.places.Place.{Place}
 use Rattle.meaning.specs.Values.{Cell, null_of, area, known, lawful}
@@ -38,12 +38,12 @@ module _ (W : ℕ) (t : Tables) (k : Kind) (a : ℕ) (x : Layout) (law : lawful 
   one_area : is Scalar (known x) ≡ true → area x ≡ 1
   one_area s = let one = scalar_one x (lawful_fixed W x law) s in λ i. one.0 i * one.1 i
 
-  along-at : (n : ℕ) → along k n (value_from W t a x) ≡ cond (is Scalar (known x)) (replicate n (get_or (table_of k t) (a * W) (null_of k))) (cells (table_of k t) (a * W) (area x))
-  along-at n = ap (λ (xs : List (Cell k)). cond (is Scalar (known x)) (replicate n (get_or xs 0 (null_of k))) xs) (as_cells k x.kind t (a * W) (area x) kind) ∙ by (is Scalar (known x)) one_area
+  along_at : (n : ℕ) → along k n (value_from W t a x) ≡ cond (is Scalar (known x)) (replicate n (get_or (table_of k t) (a * W) (null_of k))) (cells (table_of k t) (a * W) (area x))
+  along_at n = ap (λ (xs : List (Cell k)). cond (is Scalar (known x)) (replicate n (get_or xs 0 (null_of k))) xs) (as_cells k x.kind t (a * W) (area x) kind) ∙ by (is Scalar (known x)) one_area
     where
       by : (s : Bool) → (s ≡ true → area x ≡ 1)
           → cond s (replicate n (get_or (cells (table_of k t) (a * W) (area x)) 0 (null_of k))) (cells (table_of k t) (a * W) (area x)) ≡ cond s (replicate n (get_or (table_of k t) (a * W) (null_of k))) (cells (table_of k t) (a * W) (area x))
-      by true one = ap (replicate n) (ap (λ (m : ℕ). get_or (cells (table_of k t) (a * W) m) 0 (null_of k)) (one refl) ∙ get_d_cells (table_of k t) (a * W) 1 0 (null_of k) (omega arith) ∙ ap (λ (m : ℕ). get_or (table_of k t) m (null_of k)) (add-zero (a * W)))
+      by true one = ap (replicate n) (ap (λ (m : ℕ). get_or (cells (table_of k t) (a * W) m) 0 (null_of k)) (one refl) ∙ get_or_cells (table_of k t) (a * W) 1 0 (null_of k) (omega arith) ∙ ap (λ (m : ℕ). get_or (table_of k t) m (null_of k)) (add-zero (a * W)))
       by false one = refl
 
 -- ---- cells a of one value and b of another, of which either may be a scalar
@@ -83,6 +83,6 @@ module _ (p : Place) (op : Equality) (t : Tables) (a b : ℕ) (x y form : Layout
       let n : ℕ = cond (is Scalar (known x)) y.r x.r * cond (is Scalar (known x)) y.s x.s in
       let far = under_all W a p.row lt in
       let long = long_in p t k ample in
-      (λ i. same_cells k (along-at W t k a x lx (own_kind k) n i) (along-at W t k b y ly kinds n i))
+      (λ i. same_cells k (along_at W t k a x lx (own_kind k) n i) (along_at W t k b y ly kinds n i))
       ∙ same_by k (table_of k t) (a * W) (b * W) (is Scalar (known x)) (is Scalar (known y)) x.r y.r x.s y.s (omega (arith, far, long, wide))
       (one_area W t k a x lx (own_kind k)) (one_area W t k b y ly kinds) (match_area (is Scalar (known x)) (is Scalar (known y)) x.r y.r x.s y.s sizes)

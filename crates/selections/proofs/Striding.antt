@@ -52,20 +52,20 @@ module _ (W : ℕ) (t : Tables) (a to b : ℕ) where
   one_more : (r s : ℕ) → r ≡ 1 → s ≡ r * s
   one_more r s e = sym (one-mul s) ∙ ap (λ (m : ℕ). m * s) (sym e)
 
-  written-by : (k : Kind) (x : Shape) (r s : ℕ) → lawful W (layout_of k x r s) ≡ true → (same_shape Vector x || same_shape Interval x) ≡ true → Written (layout_of k x r s)
-  written-by k Scalar r s law h = never h
-  written-by k Matrix r s law h = never h
-  written-by Boolean Vector r s law h = ap (λ (n : ℕ). with_table Boolean t (put t.booleans to (stepped false b (cells t.booleans (a * W) n)))) (one_more r s (vector_one (layout_of Boolean Vector r s) (lawful_fixed W (layout_of Boolean Vector r s) law) refl))
-  written-by Character Vector r s law h = ap (λ (n : ℕ). with_table Character t (put t.characters to (stepped (pos 0) b (cells t.characters (a * W) n)))) (one_more r s (vector_one (layout_of Character Vector r s) (lawful_fixed W (layout_of Character Vector r s) law) refl))
-  written-by Integer Vector r s law h = ap (λ (n : ℕ). with_table Integer t (put t.integers to (stepped (pos 0) b (cells t.integers (a * W) n)))) (one_more r s (vector_one (layout_of Integer Vector r s) (lawful_fixed W (layout_of Integer Vector r s) law) refl))
-  written-by Boolean Interval r s law h = never (lawful_fixed W (layout_of Boolean Interval r s) law)
-  written-by Character Interval r s law h = never (lawful_fixed W (layout_of Character Interval r s) law)
-  written-by Integer Interval r s law h =
+  written_by : (k : Kind) (x : Shape) (r s : ℕ) → lawful W (layout_of k x r s) ≡ true → (same_shape Vector x || same_shape Interval x) ≡ true → Written (layout_of k x r s)
+  written_by k Scalar r s law h = never h
+  written_by k Matrix r s law h = never h
+  written_by Boolean Vector r s law h = ap (λ (n : ℕ). with_table Boolean t (put t.booleans to (stepped false b (cells t.booleans (a * W) n)))) (one_more r s (vector_one (layout_of Boolean Vector r s) (lawful_fixed W (layout_of Boolean Vector r s) law) refl))
+  written_by Character Vector r s law h = ap (λ (n : ℕ). with_table Character t (put t.characters to (stepped (pos 0) b (cells t.characters (a * W) n)))) (one_more r s (vector_one (layout_of Character Vector r s) (lawful_fixed W (layout_of Character Vector r s) law) refl))
+  written_by Integer Vector r s law h = ap (λ (n : ℕ). with_table Integer t (put t.integers to (stepped (pos 0) b (cells t.integers (a * W) n)))) (one_more r s (vector_one (layout_of Integer Vector r s) (lawful_fixed W (layout_of Integer Vector r s) law) refl))
+  written_by Boolean Interval r s law h = never (lawful_fixed W (layout_of Boolean Interval r s) law)
+  written_by Character Interval r s law h = never (lawful_fixed W (layout_of Character Interval r s) law)
+  written_by Integer Interval r s law h =
       let x = layout_of Integer Interval r s in
       step_integers t to (list_at W t.integers a x) b ∙ ap (λ (zs : List ℤ). with_table Integer t (put t.integers to (stepped (pos 0) b zs))) (sym (list_elements W t a x law refl refl))
 
   pub steps_written : (x : Layout) → lawful W x ≡ true → (is Vector (known x) || is Interval (known x)) ≡ true → Written x
-  steps_written x law h = written-by x.kind x.shape x.r x.s law h
+  steps_written x law h = written_by x.kind x.shape x.r x.s law h
 
 -- ---- the row
 module _ (p : Place) (t : Tables) (a b : ℕ) (x y : Layout) (lx : lawful p.width x ≡ true) (ly : lawful p.width y ≡ true)
@@ -76,14 +76,14 @@ module _ (p : Place) (t : Tables) (a b : ℕ) (x y : Layout) (lx : lawful p.widt
   abbrev ruled : Bool
   ruled = (is Vector (known x) || is Interval (known x)) && alone Integer (known y)
 
-  step-cell : ruled ≡ true → step ≡ amount (first (value_from p.width t b y))
-  step-cell h = es ∙ ap amount (ap (λ (m : ℕ). get_or t.integers m (pos 0)) en ∙ sym (scalar_cell p.width t b y ly (and_parts (is Vector (known x) || is Interval (known x)) (alone Integer (known y)) h).1))
+  step_cell : ruled ≡ true → step ≡ amount (first (value_from p.width t b y))
+  step_cell h = es ∙ ap amount (ap (λ (m : ℕ). get_or t.integers m (pos 0)) en ∙ sym (scalar_cell p.width t b y ly (and_parts (is Vector (known x) || is Interval (known x)) (alone Integer (known y)) h).1))
 
   pub step_guarded : step_guard p x y l step ≡ guarded p step_at
   step_guarded =
       guards_same p ruled _ _ None None _ _ true true
       (λ h. unmet p x.kind (orderly l) (leb 1 step) (step_count (index_count l) step)
-      ∙ (λ i. guards p true (read_order p.width t a x lx l el i && (ap (leb 1) (step-cell h) ∙ step_order (first (value_from p.width t b y))) i) None (vector_of x.kind (step_count (read_count p.width t a x lx l el i) (step-cell h i))) true))
+      ∙ (λ i. guards p true (read_order p.width t a x lx l el i && (ap (leb 1) (step_cell h) ∙ step_order (first (value_from p.width t b y))) i) None (vector_of x.kind (step_count (read_count p.width t a x lx l el i) (step_cell h i))) true))
 
   module _ (form : Layout) (g : Ok form ≡ step_guard p x y l step) where
     abbrev passes : ruled ≡ true
@@ -93,15 +93,15 @@ module _ (p : Place) (t : Tables) (a b : ℕ) (x y : Layout) (lx : lawful p.widt
     step_some =
         let o = (tests p 0 (λ t u. Unit {0}) t t step_at form (sym (g ∙ step_guarded))).3 in
         let z = (and_parts (in_order (value_from p.width t a x)) (le_z (pos 1) (first (value_from p.width t b y))) o).1 in
-        let h : 1 ≤ step = leb-true 1 step (ap (leb 1) (step-cell passes) ∙ step_order (first (value_from p.width t b y)) ∙ z) in
+        let h : 1 ≤ step = leb-true 1 step (ap (leb 1) (step_cell passes) ∙ step_order (first (value_from p.width t b y)) ∙ z) in
         omega arith
 
     pub step_many : step_count (index_count l) step ≡ form.s
     step_many =
-        (λ i. step_count (read_count p.width t a x lx l el i) (step-cell passes i)) ∙ ap (λ (f : Layout). f.s) (tests p 0 (λ t u. Unit {0}) t t step_at form (sym (g ∙ step_guarded))).1
+        (λ i. step_count (read_count p.width t a x lx l el i) (step_cell passes i)) ∙ ap (λ (f : Layout). f.s) (tests p 0 (λ t u. Unit {0}) t t step_at form (sym (g ∙ step_guarded))).1
 
     -- what is written is the value of the row
     pub step_written : (to : ℕ) → to ≡ p.row * p.width → stepped_in x.kind t to l step ≡ with_table x.kind t (put (table_of x.kind t) (p.row * p.width) (stepped (null_of x.kind) (amount (first (value_from p.width t b y))) (listing x.kind (value_from p.width t a x))))
     step_written to et =
-        (λ i. stepped_in x.kind t (et i) (el i) (step-cell passes i))
+        (λ i. stepped_in x.kind t (et i) (el i) (step_cell passes i))
         ∙ steps_written p.width t a (p.row * p.width) (amount (first (value_from p.width t b y))) x lx (and_parts (is Vector (known x) || is Interval (known x)) (alone Integer (known y)) passes).0

@@ -1,6 +1,6 @@
 //! Rows that pick elements of a vector.
 ghost use Rattle.std.specs.Prelude.{◌≡◌, ℕ, ◌+◌, ◌*◌, ◌<◌, ◌≤◌, true, length, IfOk};
-ghost use Rattle.meaning.specs.Expressions.{by2, pick as pickPlan};
+ghost use Rattle.meaning.specs.Expressions.{by2, pick as pick_plan};
 ghost use Rattle.meaning.specs.States.{tables, value_in};
 ghost use Rattle.meaning.specs.Values.{within};
 ghost use Rattle.meaning.specs.Works.{Ample, Made};
@@ -58,7 +58,7 @@ pub fn pick_row(
     requires left { a < place.row }
     requires right { b < place.row }
     requires ample { Ample place (length booleans.old) (length characters.old) (length integers.old) }
-    ensures { Made place (by2 place.width (value_in place.width slips.now (tables booleans.old characters.old integers.old)) a b pickPlan) (tables booleans.old characters.old integers.old) result (tables booleans.new characters.new integers.new) }
+    ensures { Made place (by2 place.width (value_in place.width slips.now (tables booleans.old characters.old integers.old)) a b pick_plan) (tables booleans.old characters.old integers.old) result (tables booleans.new characters.new integers.new) }
 {
     let x = place.operand(slips, a)?;
     let y = place.operand(slips, b)?;

@@ -110,11 +110,11 @@ module _ (note : List ℕ) (n : HeadNumbers) (rows : List Row) (short : length n
       ∙ trailer_back (trailer_for note n rows) (omega arith) (omega arith) small (omega arith)
 
 module _ (a b : List ℕ) (m n : HeadNumbers) (xs ys : List Row) (la : length a ≤ 4096) (lb : length b ≤ 4096) (lx : length xs ≤ 512) (ly : length ys ≤ 512) (sm : Small m) (sn : Small n) (e : file_of a m xs ≡ file_of b n ys) where
-  same-trailer : trailer_for a m xs ≡ trailer_for b n ys
-  same-trailer = sym (last_back a m xs la lx sm) ∙ ap last_of e ∙ last_back b n ys lb ly sn
+  same_trailer : trailer_for a m xs ≡ trailer_for b n ys
+  same_trailer = sym (last_back a m xs la lx sm) ∙ ap last_of e ∙ last_back b n ys lb ly sn
 
   pub same_numbers : m ≡ n
-  same_numbers = ap (λ t. t.head) same-trailer
+  same_numbers = ap (λ t. t.head) same_trailer
 
   rest_of : List ℕ → HeadNumbers → List Row → List ℕ
   rest_of note k rows = flat_map row_bytes rows ++ trailer_bytes (trailer_for note k rows)
@@ -124,7 +124,7 @@ module _ (a b : List ℕ) (m n : HeadNumbers) (xs ys : List Row) (la : length a 
   split = sym (append_assoc a (flat_map row_bytes xs) _) ∙ e ∙ append_assoc b (flat_map row_bytes ys) _
 
   same_length : length a ≡ length b
-  same_length = ap (λ t. t.offset) same-trailer
+  same_length = ap (λ t. t.offset) same_trailer
 
   pub same_note : a ≡ b
   same_note = sym (take_at a (rest_of a m xs) (length b) same_length) ∙ ap (take (length b)) split ∙ take_at b (rest_of b n ys) (length b) refl
@@ -133,7 +133,7 @@ module _ (a b : List ℕ) (m n : HeadNumbers) (xs ys : List Row) (la : length a 
   same_rest = sym (drop_at a (rest_of a m xs) (length b) same_length) ∙ ap (drop (length b)) split ∙ drop_at b (rest_of b n ys) (length b) refl
 
   same_count : length xs ≡ length ys
-  same_count = ap (λ t. t.count) same-trailer
+  same_count = ap (λ t. t.count) same_trailer
 
   pub same_rows : xs ≡ ys
   unfolding rest_of

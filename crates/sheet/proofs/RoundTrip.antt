@@ -55,12 +55,12 @@ module _ (file note : List ℕ) (d : Draft) (short : length note ≤ 4096) (e : 
   pub count : (last_of file).count ≡ length (rows_of d)
   count = ap (λ t. t.count) last
 
-  only-room : (n : ℕ) (x : Refusal) → Unloaded file n x → (x ≡ NoRoom) × (n < length (rows_of d))
-  only-room n NotASheet h = absurd (h marked)
-  only-room n BadLayout h = absurd (h.1 laid)
-  only-room n BadHead h = absurd (h.2 typed)
-  only-room n NoRoom h = (refl, omega (arith, h.3, count))
+  only_room : (n : ℕ) (x : Refusal) → Unloaded file n x → (x ≡ NoRoom) × (n < length (rows_of d))
+  only_room n NotASheet h = absurd (h marked)
+  only_room n BadLayout h = absurd (h.1 laid)
+  only_room n BadHead h = absurd (h.2 typed)
+  only_room n NoRoom h = (refl, omega (arith, h.3, count))
 
   pub again : {X : Type 0} (m : Room) (draft : X → Draft) (text : X → List ℕ) (r : Result X Returned) → MatchResult r (λ p. Loaded file m (text p) (draft p)) (λ x. GivenBack m x (Unloaded file (space m))) → MatchResult r (λ p. (text p ≡ note) × Same (draft p) d) (λ x. (x.refusal ≡ NoRoom) × (space m < length (rows_of d)))
   again m draft text (Ok p) h = unique (text p) (draft p) h.short h.bytes
-  again m draft text (Err x) h = only-room (space m) x.refusal h.why
+  again m draft text (Err x) h = only_room (space m) x.refusal h.why

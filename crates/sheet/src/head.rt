@@ -1,6 +1,6 @@
 //! The head of a sheet: how wide it is and what it returns.
 ghost use Rattle.std.specs.Prelude.{◌≡◌, ◌≤◌, true};
-ghost use Rattle.types.specs.Typings.{lawful as lawfulType};
+ghost use Rattle.types.specs.Typings.{lawful as lawful_type};
 
 use types::{Form, Typing};
 
@@ -12,7 +12,7 @@ pub struct Head {
     pub form: Form,
     ghost low: { 2 ≤ width },
     ghost high: { width ≤ 1024 },
-    ghost lawful: { lawfulType width result ≡ true },
+    ghost lawful: { lawful_type width result ≡ true },
 }
 
 /// The numbers that stand for a head in a file, lawful or not.

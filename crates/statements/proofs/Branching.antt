@@ -34,12 +34,12 @@ module _ (p : Place) (s : State) (slips : List Slip) (t : Tables) (a : ℕ) (x :
     branch_stuck f e bad = ap (λ (g : Fault). step (Err g) here) e ∙ sym (at_value ∙ cond-false (alone Boolean (known x)) _ _ (sym bad))
 
     module _ (law : lawful p.width x ≡ true) (lone : true ≡ alone Boolean (known x)) (at : ℕ) (start : at ≡ a * p.width) (b : Bool) (cell : get_or t.booleans at false ≡ b) where
-      is-truth : truth v ≡ b
-      is-truth = truth_cell p.width x law (sym lone) t a ∙ ap (λ (n : ℕ). get_or t.booleans n false) (sym start) ∙ cell
+      is_truth : truth v ≡ b
+      is_truth = truth_cell p.width x law (sym lone) t a ∙ ap (λ (n : ℕ). get_or t.booleans n false) (sym start) ∙ cell
 
       pub branch_by : cond b (step (Ok (Row (p.row + 1))) here) (step (Ok (Row (q + 1))) here) ≡ branching p a q here
       branch_by =
-          sym (at_value ∙ cond-true (alone Boolean (known x)) _ _ (sym lone) ∙ ap (λ (c : Bool). cond c (step (Ok (Row (p.row + 1))) here) (step (Ok (Row (q + 1))) here)) is-truth)
+          sym (at_value ∙ cond-true (alone Boolean (known x)) _ _ (sym lone) ∙ ap (λ (c : Bool). cond c (step (Ok (Row (p.row + 1))) here) (step (Ok (Row (q + 1))) here)) is_truth)
 
   module _ (head : Typing) where
     at_head : returning p head a here ≡ returns p.width p.row p.line here head (Some v)

@@ -13,8 +13,8 @@ use Rattle.checker.specs.Structure.{Structured, says}
 use Rattle.statements.specs.Ready.{DomainBefore, Reopens, Ready}
 
 module _ (lines : List Line) (w : ℕ) (head : Typing) (sheet : Structured lines w head) where
-  one-before : (p a : ℕ) → all (near lines p) (a ∷ []) ≡ true → a < p
-  one-before p a h =
+  one_before : (p a : ℕ) → all (near lines p) (a ∷ []) ≡ true → a < p
+  one_before p a h =
       let n = (and_parts (near lines p a) true h).0 in
       ltb-true a p (and_parts (ltb a p) _ n).0
 
@@ -22,38 +22,38 @@ module _ (lines : List Line) (w : ℕ) (head : Typing) (sheet : Structured lines
   takes : (p : ℕ) → p < length lines → (i : Instruction) → says lines p ≡ i → all (near lines p) (operands i) ≡ true
   takes p lt i e = subst (λ (j : Instruction). all (near lines p) (operands j) ≡ true) e (sheet.taken p lt)
 
-  domain-of : (p : ℕ) → p < length lines → (i : Instruction) → says lines p ≡ i → DomainBefore p i
-  domain-of p lt (Expression e) is = tt
-  domain-of p lt (Change c) is = tt
-  domain-of p lt (Control (control.If a b)) is = tt
-  domain-of p lt (Control (control.Else b)) is = tt
-  domain-of p lt (Control (control.Loop b)) is = tt
-  domain-of p lt (Control (control.Each a b)) is = one-before p a (takes p lt (Control (control.Each a b)) is)
-  domain-of p lt (Control (control.Test a)) is = tt
-  domain-of p lt (Control control.Break) is = tt
-  domain-of p lt (Control control.Continue) is = tt
-  domain-of p lt (Control (control.End b)) is = tt
+  domain_of : (p : ℕ) → p < length lines → (i : Instruction) → says lines p ≡ i → DomainBefore p i
+  domain_of p lt (Expression e) is = tt
+  domain_of p lt (Change c) is = tt
+  domain_of p lt (Control (control.If a b)) is = tt
+  domain_of p lt (Control (control.Else b)) is = tt
+  domain_of p lt (Control (control.Loop b)) is = tt
+  domain_of p lt (Control (control.Each a b)) is = one_before p a (takes p lt (Control (control.Each a b)) is)
+  domain_of p lt (Control (control.Test a)) is = tt
+  domain_of p lt (Control control.Break) is = tt
+  domain_of p lt (Control control.Continue) is = tt
+  domain_of p lt (Control (control.End b)) is = tt
 
   goes_back : (p i : ℕ) → p < length lines → i < p → Reopens lines p i
-  goes_back p i lt before = let inside : i < length lines = omega arith in record { earlier = before; inside = inside; domain = domain-of i inside (says lines i) refl }
+  goes_back p i lt before = let inside : i < length lines = omega arith in record { earlier = before; inside = inside; domain = domain_of i inside (says lines i) refl }
 
   -- for row p and its own target
   pub ready : (p : ℕ) → p < length lines → (u : Turn) → says lines p ≡ Control u → Ready lines p (at lines p).target u
-  ready p lt (control.If a b) is = one-before p a (takes p lt (Control (control.If a b)) is)
+  ready p lt (control.If a b) is = one_before p a (takes p lt (Control (control.If a b)) is)
   ready p lt (control.Else b) is = tt
   ready p lt (control.Loop b) is = tt
-  ready p lt (control.Each a b) is = one-before p a (takes p lt (Control (control.Each a b)) is)
-  ready p lt (control.Test a) is = one-before p a (takes p lt (Control (control.Test a)) is)
+  ready p lt (control.Each a b) is = one_before p a (takes p lt (Control (control.Each a b)) is)
+  ready p lt (control.Test a) is = one_before p a (takes p lt (Control (control.Test a)) is)
   ready p lt control.Break is = tt
   ready p lt control.Continue is = goes_back p (at lines p).target lt (sheet.resumed p lt is).around.before
   ready p lt (control.End b) is = let e = sheet.ended p b lt is in goes_back p (at lines p).target lt (subst (λ (i : ℕ). i < p) (sym e.3) e.1)
 
   -- ---- what other rows take
   pub printed_before : (p a : ℕ) → p < length lines → says lines p ≡ Change (change.Print a) → a < p
-  printed_before p a lt is = one-before p a (takes p lt (Change (change.Print a)) is)
+  printed_before p a lt is = one_before p a (takes p lt (Change (change.Print a)) is)
 
   pub returned_before : (p a : ℕ) → p < length lines → says lines p ≡ Change (change.Return a) → a < p
-  returned_before p a lt is = one-before p a (takes p lt (Change (change.Return a)) is)
+  returned_before p a lt is = one_before p a (takes p lt (Change (change.Return a)) is)
 
   pub read_before : (p v : ℕ) → p < length lines → says lines p ≡ Change (change.Read v) → v < p
   read_before p v lt is = (sheet.filled p v lt is).before

@@ -59,11 +59,11 @@ module _ (p : Place) (s : State) (slips : List Slip) (t : Tables) (a : ℕ) (x :
     abbrev fed : State
     fed = feeding s taken stream slips t waiting
 
-    at-variable : inputting p a fed ≡ reads p.width p.row p.line fed a (Some v)
-    at-variable = ap (reads p.width p.row p.line fed a) (is_there p t a slips x h)
+    at_variable : inputting p a fed ≡ reads p.width p.row p.line fed a (Some v)
+    at_variable = ap (reads p.width p.row p.line fed a) (is_there p t a slips x h)
 
     pub read_stuck : (f : Fault) → f ≡ fault_at p NoRule 0 → false ≡ is Scalar (known x) → step (Err f) fed ≡ inputting p a fed
-    read_stuck f e bad = ap (λ (g : Fault). step (Err g) fed) e ∙ sym (at-variable ∙ cond-false (is Scalar (known x)) _ _ (sym bad))
+    read_stuck f e bad = ap (λ (g : Fault). step (Err g) fed) e ∙ sym (at_variable ∙ cond-false (is Scalar (known x)) _ _ (sym bad))
 
     pub read_value : true ≡ is Scalar (known x) → (to : ℕ) → to ≡ a * p.width → (lost : ℕ) (last : StreamState) (u : Tables) (left : List ℕ)
         → u ≡ with_table x.kind t (put (table_of x.kind t) to ((words.reading x.kind waiting).value ∷ [])) → last ≡ (words.reading x.kind waiting).state → left ≡ words.unread x.kind waiting
@@ -72,4 +72,4 @@ module _ (p : Place) (s : State) (slips : List Slip) (t : Tables) (a : ℕ) (x :
         let cells : u ≡ with_table x.kind t (put (table_of x.kind t) (a * p.width) ((words.reading x.kind waiting).value ∷ [])) =
         eu ∙ ap (λ (n : ℕ). with_table x.kind t (put (table_of x.kind t) n ((words.reading x.kind waiting).value ∷ []))) start in
         let count : lost ≡ counted taken (gone waiting (words.unread x.kind waiting)) = et ∙ ap (λ (r : List ℕ). counted taken (gone waiting r)) ew in
-        (λ i. step (Ok (Row (p.row + 1))) (feeding s (count i) (es i) slips (cells i) (ew i))) ∙ sym (at-variable ∙ cond-true (is Scalar (known x)) _ _ (sym good))
+        (λ i. step (Ok (Row (p.row + 1))) (feeding s (count i) (es i) slips (cells i) (ew i))) ∙ sym (at_variable ∙ cond-true (is Scalar (known x)) _ _ (sym good))

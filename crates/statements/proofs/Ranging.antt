@@ -9,7 +9,7 @@ use Rattle.types.specs.Typings.{is}
 use Rattle.fault.specs.declared.causes.Cause.TheVariants.{Disordered, NoRule}
 use Rattle.fault.specs.declared.faults.Fault.{Fault}
 use Rattle.element.specs.Cells.{cells, put}
-use Rattle.element.proofs.Writes.{get_d_cells}
+use Rattle.element.proofs.Writes.{get_or_cells}
 use Rattle.picks.specs.declared.indices.Index.{Index}
 use Rattle.picks.specs.declared.indices.Index.TheVariants as list
 use Rattle.picks.specs.Indices.{index_count}
@@ -49,7 +49,7 @@ ranged_wide W x law good = omega (arith, ranged_one W x law good, (lawful_small 
 -- ---- the element
 -- a run of one cell
 one_cell : {X : Type 0} (T : List X) (at m n : ℕ) (d : X) → n < m → at + n < length T → cells T (at + n) 1 ≡ get_or (cells T at m) n d ∷ []
-one_cell T at m n d lt h = ap (take 1) (drop-cons T (at + n) d h) ∙ ap (λ y. y ∷ []) (sym (get_d_cells T at m n d lt))
+one_cell T at m n d lt h = ap (take 1) (drop-cons T (at + n) d h) ∙ ap (λ y. y ∷ []) (sym (get_or_cells T at m n d lt))
 
 module _ (W : ℕ) (t : Tables) (a n to : ℕ) where
   -- the cell that is written holds element n of the value
@@ -107,11 +107,11 @@ module _ (p : Place) (s : State) (slips : List Slip) (t : Tables) (i a e n : ℕ
   abbrev does : Turned → Step
   does u = advances p.width p.row p.line here i e n u
 
-  at-domain : advancing p i a e n here ≡ does (turned (Some v) n)
-  at-domain = ap (λ (o : Option Value). does (turned o n)) (is_there p t a slips x h)
+  at_domain : advancing p i a e n here ≡ does (turned (Some v) n)
+  at_domain = ap (λ (o : Option Value). does (turned o n)) (is_there p t a slips x h)
 
   pub each_stuck : (f : Fault) → f ≡ fault_at p NoRule 0 → false ≡ ranged x → step (Err f) here ≡ advancing p i a e n here
-  each_stuck f told bad = ap (λ (g : Fault). step (Err g) here) told ∙ sym (at-domain ∙ ap does (cond-false (ranged x) _ _ (sym bad)))
+  each_stuck f told bad = ap (λ (g : Fault). step (Err g) here) told ∙ sym (at_domain ∙ ap does (cond-false (ranged x) _ _ (sym bad)))
 
   module _ (law : lawful p.width x ≡ true) (good : true ≡ ranged x) (l : Index) (is-list : l ≡ list_at p.width t.integers a x) where
     orders : in_order v ≡ orderly l
@@ -122,20 +122,20 @@ module _ (p : Place) (s : State) (slips : List Slip) (t : Tables) (i a e n : ℕ
 
     pub each_disordered : (f : Fault) → f ≡ fault_at p Disordered 0 → false ≡ orderly l → step (Err f) here ≡ advancing p i a e n here
     each_disordered f told bad =
-        ap (λ (g : Fault). step (Err g) here) told ∙ sym (at-domain ∙ ap does (cond-true (ranged x) _ _ (sym good) ∙ cond-false (in_order v) _ _ (orders ∙ sym bad)))
+        ap (λ (g : Fault). step (Err g) here) told ∙ sym (at_domain ∙ ap does (cond-true (ranged x) _ _ (sym good) ∙ cond-false (in_order v) _ _ (orders ∙ sym bad)))
 
     module _ (fine : true ≡ orderly l) where
-      at-order : advancing p i a e n here ≡ does (cond (ltb n (count v)) (takes (element_at v n)) over)
-      at-order = at-domain ∙ ap does (cond-true (ranged x) _ _ (sym good) ∙ cond-true (in_order v) _ _ (orders ∙ sym fine))
+      at_order : advancing p i a e n here ≡ does (cond (ltb n (count v)) (takes (element_at v n)) over)
+      at_order = at_domain ∙ ap does (cond-true (ranged x) _ _ (sym good) ∙ cond-true (in_order v) _ _ (orders ∙ sym fine))
 
       pub each_over : index_count l ≤ n → (after : List Slip) → after ≡ set slips i blank_slip → step (Ok (Row (e + 1))) (holding s after t) ≡ advancing p i a e n here
       each_over past after es =
           ap (λ (ss : List Slip). step (Ok (Row (e + 1))) (holding s ss t)) es
-          ∙ sym (at-order ∙ ap does (cond-false (ltb n (count v)) _ _ (le-ltb n (count v) (omega (arith, counts)))))
+          ∙ sym (at_order ∙ ap does (cond-false (ltb n (count v)) _ _ (le-ltb n (count v) (omega (arith, counts)))))
 
       pub each_takes : n < index_count l → ((k : Kind) → a * p.width + p.width ≤ length (table_of k t)) → (to : ℕ) → to ≡ i * p.width → (after : List Slip) → after ≡ set slips i (slip_of (scalar_of x.kind) n)
           → (u : Tables) → u ≡ with_element x.kind l n to t → step (Ok (Row (i + 1))) (holding s after u) ≡ advancing p i a e n here
       each_takes lt long to start after es u et =
           let placed : u ≡ placed_in p.width t i (element_at v n) =
           et ∙ (λ j. with_element x.kind (is-list j) n (start j) t) ∙ element_placed p.width t a n (i * p.width) x law (sym good) (subst (λ (j : Index). n < index_count j) is-list lt) long in
-          (λ j. step (Ok (Row (i + 1))) (holding s (es j) (placed j))) ∙ sym (at-order ∙ ap does (cond-true (ltb n (count v)) _ _ (lt-ltb n (count v) (omega (arith, counts)))))
+          (λ j. step (Ok (Row (i + 1))) (holding s (es j) (placed j))) ∙ sym (at_order ∙ ap does (cond-true (ltb n (count v)) _ _ (lt-ltb n (count v) (omega (arith, counts)))))

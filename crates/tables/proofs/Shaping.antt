@@ -6,7 +6,7 @@ use Rattle.types.specs.declared.kinds.Kind.{Kind}
 use Rattle.types.specs.declared.kinds.Shape.{Shape}
 use Rattle.types.specs.declared.kinds.Shape.TheVariants.{Scalar, Vector, Matrix, Interval}
 use Rattle.element.specs.Cells.{cells}
-use Rattle.element.proofs.Writes.{get_d_cells}
+use Rattle.element.proofs.Writes.{get_or_cells}
 use Rattle.print.specs.Texts.{Printed}
 use Rattle.meaning.specs.Values.{Cell, null_of, layout_of, fixed}
 use Rattle.meaning.specs.States.{Tables, table_of}
@@ -34,7 +34,7 @@ module _ {X : Type 0} (text : X → List ℕ) (null : X) (T : List X) (x : Shape
       let some : 0 < r * s = omega arith in
       let inside : at < length T = omega arith in
       let here : v ≡ get_or T at null = get_or_read T at v inside is null in
-      let cell : get_or (cells T at (r * s)) 0 null ≡ get_or T at null = get_d_cells T at (r * s) 0 null some ∙ ap (λ i. get_or T i null) (add-zero at) in
+      let cell : get_or (cells T at (r * s)) 0 null ≡ get_or T at null = get_or_cells T at (r * s) 0 null some ∙ ap (λ i. get_or T i null) (add-zero at) in
       ap text (here ∙ sym cell) ∙ ap (λ (y : Shape). shaped_text y text null r s (cells T at (r * s))) (sym e)
 
   -- of an interval nothing is printed

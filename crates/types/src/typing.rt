@@ -1,7 +1,7 @@
 //! The type of a value, as far as it is known.
 ghost use Rattle.std.specs.Prelude.{◌≡◌};
 ghost use Rattle.types.specs.Types.{room};
-ghost use Rattle.types.specs.Typings.{scalar as scalar_of, vector as vector_of, matrix as matrixOf, interval as intervalOf, is, of, flat, alone, index as indexes, pairs, type_fits, lawful, span, matches, matches_spread, spread};
+ghost use Rattle.types.specs.Typings.{scalar as scalar_of, vector as vector_of, matrix as matrix_of, interval as interval_of, is, of, flat, alone, index as indexes, pairs, type_fits, lawful, span, matches, matches_spread, spread};
 
 use crate::kinds::{Kind, Shape, Size};
 use crate::sizes::is_area_within;
@@ -42,7 +42,7 @@ impl Typing {
 
     /// A matrix of this kind and these sizes.
     pub fn matrix(kind: Kind, r: Size, s: Size) -> Typing
-        ensures { result ≡ matrixOf kind r s }
+        ensures { result ≡ matrix_of kind r s }
     {
         Typing {
             kind,
@@ -54,7 +54,7 @@ impl Typing {
 
     /// An interval of integers.
     pub fn interval() -> Typing
-        ensures { result ≡ intervalOf }
+        ensures { result ≡ interval_of }
     {
         Typing {
             kind: Kind::Integer,

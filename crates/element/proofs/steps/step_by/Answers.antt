@@ -1,14 +1,14 @@
 use Rattle.std.proofs.Common.{rules}
 use Rattle.std.proofs.lemmas.List.Edits.{paste_none}
 use Rattle.element.proofs.Writes.{copy_more}
-use Rattle.element.proofs.Stepping.{step_within, length_stepped, get_d_stepped}
+use Rattle.element.proofs.Stepping.{step_within, length_stepped, get_or_stepped}
 use Rattle.element.proofs.steps.step_by.Goals as goal
 
 pub loop-k-init : goal.loop-k-init
 loop-k-init g c = search (rules, paste_none)
 
 pub loop-k-preserved : goal.loop-k-preserved
-loop-k-preserved g c = search (rules, copy_more, length_stepped, get_d_stepped, step_within)
+loop-k-preserved g c = search (rules, copy_more, length_stepped, get_or_stepped, step_within)
 
 pub returns : goal.returns
 returns g c = search (rules, length_stepped)

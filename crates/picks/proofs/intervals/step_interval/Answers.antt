@@ -4,7 +4,7 @@ use Rattle.element.specs.Steps.{step_count}
 use Rattle.element.proofs.Stepping.{step_within}
 use Rattle.element.proofs.Writes.{write_more}
 use Rattle.picks.specs.Indices.{spanned}
-use Rattle.picks.proofs.Indexing.{length_step_between, get_d_step_between}
+use Rattle.picks.proofs.Indexing.{length_step_between, get_or_step_between}
 use Rattle.picks.proofs.intervals.step_interval.Goals as goal
 
 pub loop-k-init : goal.loop-k-init
@@ -40,7 +40,7 @@ loop-k-preserved c =
     let count = c.step_count-count.ensures ∙ ap (λ (m : ℕ). step_count m a.step) size in
     let more : c.loop-k.k < step_count (spanned a.low a.high) a.step = omega (arith, count) in
     let value = simp to_z-of_z at c.nth_between.ensures in
-    search (rules, write_more, length_step_between, get_d_step_between)
+    search (rules, write_more, length_step_between, get_or_step_between)
 
 pub returns : goal.returns
 returns c =
