@@ -1,5 +1,5 @@
 -- What check shows of a sheet is what its rows ask: operands stand before, and a variable before the operands that it takes.
-use Rattle.std.proofs.Common.{◌≡◌, ℕ, ◌<◌, ◌≤◌, Bool, true, false, ◌&&◌, ◌⊎◌, List, [], ◌∷◌, length, sym, refl, ◌∙◌, subst, inl, inr, ⊎_elim, arith}
+use Rattle.std.proofs.Common.{◌≡◌, ℕ, ◌<◌, ◌≤◌, true, List, [], ◌∷◌, length, subst, ⊎_elim}
 use Rattle.std.proofs.lemmas.Bool.{and_parts, cases_lt}
 use Rattle.types.specs.declared.typing.Typing.{Typing}
 use Rattle.instruction.specs.declared.instructions.Start.TheVariants.{Nulls, Value as Given}
@@ -7,11 +7,10 @@ use Rattle.instruction.specs.declared.instructions.Expression.{Expression as Mak
 use Rattle.instruction.specs.declared.instructions.Expression.TheVariants as make
 use Rattle.instruction.specs.declared.instructions.Change.{Change as Changes}
 use Rattle.instruction.specs.declared.instructions.Change.TheVariants as change
-use Rattle.instruction.specs.declared.instructions.Control.{Control as Turn}
 use Rattle.instruction.specs.declared.instructions.Instruction.{Instruction}
 use Rattle.instruction.specs.declared.instructions.Instruction.TheVariants.{Expression, Change, Control}
 use Rattle.checker.specs.declared.line.Line.{Line}
-use Rattle.checker.specs.Blocks.{at, operands, all, near, makes, declares}
+use Rattle.checker.specs.Blocks.{operands, all, near, makes, declares}
 use Rattle.checker.specs.Structure.{Structured, Visible, Ranging, says}
 use Rattle.checker.proofs.Near.{near_tells}
 use Rattle.laws.specs.Reads.{make_reads, AllUnder}
