@@ -942,7 +942,8 @@ def main():
             path = os.path.join(folder, name)
             with open(path, encoding="utf-8") as f:
                 old = f.read()
-            new = turned(old, FIRST.get(path, {}), True) if path in FIRST else old
+            first = {a: b for a, b in FIRST.get(path, {}).items() if b not in TOKEN.findall(old)}
+            new = turned(old, first, True) if first else old
             new = turned(new, NAMES, name.endswith(".antt"))
             if new != old:
                 with open(path, "w", encoding="utf-8") as f:

@@ -5,7 +5,7 @@ use Rattle.types.specs.declared.kinds.Kind.{Kind}
 use Rattle.types.specs.declared.kinds.Kind.TheVariants.{Boolean, Character, Integer}
 use Rattle.types.specs.declared.kinds.Shape.{Shape}
 use Rattle.types.specs.declared.kinds.Shape.TheVariants.{Scalar, Vector, Matrix, Interval}
-use Rattle.types.specs.Types.{kinds_equal, same_shape}
+use Rattle.types.specs.Types.{same_kind, same_shape}
 use Rattle.element.specs.Cells.{cells}
 use Rattle.meaning.specs.declared.layouts.Layout.{Layout}
 use Rattle.meaning.specs.declared.places.Place.{Place}
@@ -69,7 +69,7 @@ vector_one f h t = go f.kind f.shape f.r f.s h t
     go k Interval r s h t = never t
 
 -- the elements of a value, asked for as its own kind
-pub as_cells : (k l : Kind) (t : Tables) (at n : ℕ) → kinds_equal k l ≡ true → elements_as k l (cells (table_of l t) at n) ≡ cells (table_of k t) at n
+pub as_cells : (k l : Kind) (t : Tables) (at n : ℕ) → same_kind k l ≡ true → elements_as k l (cells (table_of l t) at n) ≡ cells (table_of k t) at n
 as_cells Boolean Boolean t at n h = refl
 as_cells Boolean Character t at n h = never h
 as_cells Boolean Integer t at n h = never h
@@ -80,7 +80,7 @@ as_cells Integer Boolean t at n h = never h
 as_cells Integer Character t at n h = never h
 as_cells Integer Integer t at n h = refl
 
-pub kinds_equal : (k l : Kind) → kinds_equal k l ≡ true → k ≡ l
+pub kinds_equal : (k l : Kind) → same_kind k l ≡ true → k ≡ l
 kinds_equal Boolean Boolean h = refl
 kinds_equal Boolean Character h = never h
 kinds_equal Boolean Integer h = never h
