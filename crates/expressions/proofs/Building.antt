@@ -1,5 +1,5 @@
 -- Rows that build a value of others: the cells that the code moves are the elements that the rule names.
-use Rattle.std.proofs.Common.{◌≡◌, ℕ, ◌+◌, ◌*◌, ◌<◌, ◌≤◌, max, Bool, true, false, cond, ◌&&◌, ◌||◌, eqb, List, [], ◌∷◌, ◌++◌, None, Ok, Err, Result, sym, refl, ap, ◌∙◌, subst, one-mul, arith}
+use Rattle.std.proofs.Common.{◌≡◌, ℕ, ◌+◌, ◌*◌, max, true, ◌&&◌, ◌||◌, eqb, List, [], ◌++◌, Ok, Err, Result, sym, refl, ap, ◌∙◌, one-mul}
 use Rattle.std.proofs.lemmas.List.Edits.{paste_none}
 use Rattle.std.proofs.lemmas.Bool.{and_parts, eqb-true}
 use Rattle.types.specs.declared.kinds.Kind.{Kind}
@@ -12,14 +12,14 @@ use Rattle.types.specs.Typings.{is, of}
 use Rattle.rules.specs.Rules.{joins}
 use Rattle.arithmetic.specs.declared.faults.ElementFault.{ElementFault}
 use Rattle.fault.specs.declared.faults.Fault.{Fault}
-use Rattle.element.specs.Cells.{cells, put, rows_of}
+use Rattle.element.specs.Cells.{cells, rows_of}
 use Rattle.element.specs.Matrices.{resized, stacked}
 use Rattle.meaning.specs.declared.layouts.Layout.{Layout}
 use Rattle.meaning.specs.declared.places.Place.{Place}
-use Rattle.meaning.specs.Values.{Cell, null_of, area, known, fixed, lawful, layout_of, elements_of, value_of, vector_of}
+use Rattle.meaning.specs.Values.{Cell, null_of, area, known, fixed, lawful, layout_of}
 use Rattle.meaning.specs.Plans.{Plan, outcome}
-use Rattle.meaning.specs.Expressions.{joined, stack, size_or, resized_to, empty}
-use Rattle.meaning.specs.States.{Tables, table_of, with_table, placed_in, value_from, FreeAt}
+use Rattle.meaning.specs.Expressions.{joined, stack, resized_to, empty}
+use Rattle.meaning.specs.States.{Tables, table_of, with_table, value_from, FreeAt}
 use Rattle.meaning.specs.Works.{guarded, Made}
 use Rattle.meaning.proofs.Shells.{never, tests, stays, left_refused, left_value}
 use Rattle.meaning.proofs.Rows.{as_cells, vector_one, lawful_fixed}

@@ -1,22 +1,21 @@
 -- The list that the code reads is the one that the value stands for.
-use Rattle.std.proofs.Common.{◌≡◌, ℕ, ◌+◌, ◌*◌, ◌<◌, ◌≤◌, Bool, true, false, cond, not, ◌&&◌, ◌||◌, eqb, List, length, get_or, ℤ, pos, sym, refl, ap, ◌∙◌, subst, add-zero, one-mul, arith}
+use Rattle.std.proofs.Common.{◌≡◌, ℕ, ◌+◌, ◌*◌, ◌<◌, ◌≤◌, Bool, true, false, cond, not, ◌||◌, eqb, List, get_or, ℤ, pos, refl, ap, ◌∙◌, add-zero, one-mul, arith}
 use lib.Signed.{le_z}
-use Rattle.std.proofs.lemmas.Bool.{and_parts, eqb-true, cond-true, cond-false, cases_Bool}
+use Rattle.std.proofs.lemmas.Bool.{and_parts, eqb-true}
 use Rattle.types.specs.declared.kinds.Kind.{Kind}
 use Rattle.types.specs.declared.kinds.Kind.TheVariants.{Boolean, Character, Integer}
 use Rattle.types.specs.declared.kinds.Shape.{Shape}
 use Rattle.types.specs.declared.kinds.Shape.TheVariants.{Scalar, Vector, Matrix, Interval}
 use Rattle.types.specs.Types.{same_kind, same_shape}
-use Rattle.types.specs.Typings.{is, of, alone, index}
+use Rattle.types.specs.Typings.{is, of}
 use Rattle.element.specs.Cells.{cells}
 use Rattle.element.proofs.Writes.{get_or_cells}
-use Rattle.picks.specs.declared.indices.Index.{Index}
 use Rattle.picks.specs.declared.indices.Index.TheVariants as list
 use Rattle.picks.specs.Indices.{spanned, between, index_count, indices_of, IndexBelow}
 use Rattle.meaning.specs.declared.layouts.Layout.{Layout}
-use Rattle.meaning.specs.Values.{Cell, area, known, fixed, lawful, layout_of, elements_of, first, last, exactly}
+use Rattle.meaning.specs.Values.{area, known, fixed, lawful, layout_of, elements_of, first, last}
 use Rattle.meaning.specs.Expressions.{in_order, count, listing}
-use Rattle.meaning.specs.States.{Tables, table_of, tables, value_from}
+use Rattle.meaning.specs.States.{Tables, value_from}
 use Rattle.meaning.proofs.Shells.{never}
 use Rattle.meaning.proofs.Rows.{as_cells, lawful_fixed}
 use Rattle.expressions.specs.Lists.{list_at, orderly}

@@ -15,7 +15,7 @@ use Rattle.elementwise.specs.Products.{dot, products}
 use Rattle.elementwise.specs.Results.{collected, Wrote}
 use Rattle.meaning.specs.declared.layouts.Layout.{Layout}
 use Rattle.meaning.specs.declared.places.Place.{Place}
-use Rattle.meaning.specs.Values.{area, known, fixed, lawful, elements_of}
+use Rattle.meaning.specs.Values.{area, known, lawful, elements_of}
 use Rattle.meaning.specs.Expressions.{multiplied}
 use Rattle.meaning.specs.Plans.{Plan}
 use Rattle.meaning.specs.States.{Tables, value_from}

@@ -1,10 +1,9 @@
 -- Two operands element by element: the cells that the code reads are the elements that the rule names.
-use Rattle.std.proofs.Common.{◌≡◌, ℕ, ◌+◌, ◌*◌, ◌<◌, ◌≤◌, Bool, true, false, cond, ◌&&◌, ◌||◌, eqb, List, length, get_or, replicate, None, Ok, Result, sym, refl, ap, ◌∙◌, add-zero, arith}
+use Rattle.std.proofs.Common.{◌≡◌, ℕ, ◌+◌, ◌*◌, ◌<◌, ◌≤◌, Bool, true, false, cond, ◌&&◌, ◌||◌, eqb, List, get_or, replicate, None, Ok, Result, sym, refl, ap, ◌∙◌, add-zero, arith}
 use Rattle.std.proofs.lemmas.Bool.{and_parts, eqb-true}
 use Rattle.arithmetic.specs.declared.faults.ElementFault.{ElementFault}
 use Rattle.types.specs.declared.kinds.Kind.{Kind}
 use Rattle.types.specs.declared.kinds.Shape.TheVariants.{Scalar}
-use Rattle.types.specs.Types.{same_kind}
 use Rattle.types.specs.Typings.{is, of, pairs, matches_spread}
 use Rattle.element.specs.Cells.{cells}
 use Rattle.element.proofs.Writes.{get_or_cells}
@@ -12,7 +11,7 @@ use Rattle.elementwise.specs.declared.operands.Operand.{Operand}
 use Rattle.elementwise.specs.Operands.{end_of, along as along_table}
 use Rattle.meaning.specs.declared.layouts.Layout.{Layout}
 use Rattle.meaning.specs.declared.places.Place.{Place}
-use Rattle.meaning.specs.Values.{Cell, null_of, area, known, fixed, lawful, elements_of}
+use Rattle.meaning.specs.Values.{Cell, null_of, area, known, lawful}
 use Rattle.meaning.specs.Elements.{along}
 use Rattle.meaning.specs.Plans.{Plan, outcome, unless_outside, finished, fits}
 use Rattle.meaning.specs.Expressions.{pairwise}

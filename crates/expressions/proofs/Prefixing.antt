@@ -1,18 +1,17 @@
 -- One operand element by element, where its kind and sizes stay.
-use Rattle.std.proofs.Common.{◌≡◌, ℕ, ◌+◌, ◌*◌, ◌<◌, ◌≤◌, true, ◌&&◌, List, None, Ok, Result, sym, refl, ap, ◌∙◌, arith}
+use Rattle.std.proofs.Common.{◌≡◌, ℕ, ◌+◌, ◌*◌, ◌<◌, ◌≤◌, true, ◌&&◌, None, Ok, sym, ◌∙◌, arith}
 use Rattle.std.proofs.lemmas.Bool.{and_parts}
 use Rattle.types.specs.declared.kinds.Kind.{Kind}
 use Rattle.types.specs.Typings.{of, flat}
-use Rattle.arithmetic.specs.declared.faults.ElementFault.{ElementFault}
 use Rattle.element.specs.Cells.{cells}
 use Rattle.meaning.specs.declared.layouts.Layout.{Layout}
 use Rattle.meaning.specs.declared.places.Place.{Place}
-use Rattle.meaning.specs.Values.{Cell, area, layout_of, known, lawful, elements_of}
-use Rattle.meaning.specs.Plans.{Plan, simple}
+use Rattle.meaning.specs.Values.{area, layout_of, known, elements_of}
+use Rattle.meaning.specs.Plans.{simple}
 use Rattle.meaning.specs.States.{Tables, table_of, value_from}
-use Rattle.meaning.specs.Works.{guards, guarded}
+use Rattle.meaning.specs.Works.{guards}
 use Rattle.meaning.proofs.Shells.{tests}
-use Rattle.meaning.proofs.Rows.{as_cells, under_all, lawful_small}
+use Rattle.meaning.proofs.Rows.{as_cells, under_all}
 
 module _ (p : Place) (k : Kind) (t : Tables) (a : ℕ) (x form : Layout) (h : Ok form ≡ guards p (of k (known x) && flat (known x)) true None (layout_of k x.shape x.r x.s) true) where
   -- the cells that the code reads are the elements of the operand

@@ -1,5 +1,5 @@
 -- What a write into one table leaves of a row, and what an element's fault leaves.
-use Rattle.std.proofs.Common.{◌≡◌, ℕ, ◌+◌, ◌*◌, ◌<◌, ◌≤◌, List, [], length, take, drop, IsErrAnd, Some, None, Ok, Err, Option, Result, sym, refl, ap, ◌∙◌, subst, arith}
+use Rattle.std.proofs.Common.{◌≡◌, ℕ, ◌+◌, ◌*◌, ◌<◌, ◌≤◌, List, [], length, IsErrAnd, None, Ok, Err, Result, sym, refl, ap, ◌∙◌, subst, arith}
 use Rattle.std.specs.Result.{result_map_both}
 use Rattle.types.specs.declared.kinds.Kind.{Kind}
 use Rattle.types.specs.declared.kinds.Kind.TheVariants.{Boolean, Character, Integer}
@@ -7,18 +7,17 @@ use Rattle.arithmetic.specs.declared.faults.ElementFault.{ElementFault}
 use Rattle.arithmetic.specs.declared.faults.Located.{Located}
 use Rattle.arithmetic.specs.Faults.{at_row}
 use Rattle.fault.specs.declared.faults.Fault.{Fault}
-use Rattle.fault.specs.declared.causes.Cause.TheVariants.{Arithmetic}
 use Rattle.fault.specs.Faults.{fault_of}
 use Rattle.element.specs.Cells.{put}
 use Rattle.elementwise.specs.Results.{Wrote}
 use Rattle.meaning.specs.declared.layouts.Layout.{Layout}
 use Rattle.meaning.specs.declared.places.Place.{Place}
-use Rattle.meaning.specs.Values.{Cell, value_of}
+use Rattle.meaning.specs.Values.{Cell}
 use Rattle.meaning.specs.Plans.{Plan, outcome}
-use Rattle.meaning.specs.States.{Tables, table_of, with_table, placed_in, Elsewhere, FreeAt}
-use Rattle.meaning.specs.Works.{fault_at, guarded, Made, Ample, changed}
+use Rattle.meaning.specs.States.{Tables, table_of, with_table, Elsewhere, FreeAt}
+use Rattle.meaning.specs.Works.{guarded, Made, Ample, changed}
 use Rattle.meaning.proofs.Rows.{under_all}
-use Rattle.meaning.proofs.Shells.{stays, exits, left_value, left_element, free_elsewhere}
+use Rattle.meaning.proofs.Shells.{exits, left_value, left_element, free_elsewhere}
 
 -- only the table of kind k changes, and there only the row's own cells
 pub free_with : (W i : ℕ) (k : Kind) (t : Tables) (T : List (Cell k)) → Elsewhere W i (table_of k t) T → FreeAt W i t (with_table k t T)

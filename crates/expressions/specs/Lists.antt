@@ -1,5 +1,5 @@
 -- Values as lists of integers: the indices, the steps and the elements that a vector, a scalar or an interval stands for.
-use Rattle.std.specs.Prelude.{ℕ, ◌+◌, ◌*◌, Bool, true, cond, ◌&&◌, List, ℤ, pos, int_le, slice_index_or}
+use Rattle.std.specs.Prelude.{ℕ, ◌+◌, ◌*◌, Bool, true, cond, List, ℤ, pos, int_le, slice_index_or}
 use Rattle.types.specs.declared.kinds.Shape.TheVariants.{Interval}
 use Rattle.types.specs.Typings.{is}
 use Rattle.picks.specs.declared.indices.Index.{Index}

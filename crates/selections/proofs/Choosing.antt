@@ -1,12 +1,11 @@
 -- Rows that choose elements by indices: their tests, their elements and their answers are those of the rule.
-use Rattle.std.proofs.Common.{◌≡◌, ℕ, ◌+◌, ◌*◌, ◌<◌, ◌≤◌, Bool, true, false, cond, not, ◌&&◌, List, length, ℤ, Some, None, Ok, Err, Option, Result, sym, refl, ap, ◌∙◌, subst, one-mul, arith}
+use Rattle.std.proofs.Common.{◌≡◌, ℕ, ◌+◌, ◌*◌, ◌≤◌, true, cond, not, ◌&&◌, List, Some, None, Ok, Option, Result, sym, ap, ◌∙◌, subst, one-mul}
 use Rattle.std.proofs.lemmas.Bool.{and_parts}
 use Rattle.types.specs.declared.kinds.Kind.{Kind}
 use Rattle.types.specs.declared.kinds.Kind.TheVariants.{Integer}
 use Rattle.types.specs.declared.kinds.Shape.TheVariants.{Scalar, Vector, Matrix}
 use Rattle.types.specs.Typings.{is, of, index}
 use Rattle.arithmetic.specs.declared.faults.ElementFault.{ElementFault}
-use Rattle.fault.specs.declared.causes.Cause.TheVariants as cause
 use Rattle.fault.specs.declared.faults.Fault.{Fault}
 use Rattle.element.specs.Cells.{cells, put}
 use Rattle.picks.specs.declared.indices.Index.{Index}
@@ -19,12 +18,12 @@ use Rattle.meaning.specs.Values.{Cell, null_of, layout_of, area, known, lawful}
 use Rattle.meaning.specs.Expressions.{in_order, count, listing, pick}
 use Rattle.meaning.specs.Plans.{Plan, outcome}
 use Rattle.meaning.specs.States.{Tables, table_of, with_table, value_from, FreeAt}
-use Rattle.meaning.specs.Works.{fault_at, guards, guarded, Made, Chosen}
+use Rattle.meaning.specs.Works.{guards, guarded, Made, Chosen}
 use Rattle.meaning.proofs.Shells.{stays, tests, left_value, left_outside}
-use Rattle.meaning.proofs.Rows.{Small, lawful_fixed, lawful_small, within_small, vector_one, under_all}
+use Rattle.meaning.proofs.Rows.{lawful_fixed, lawful_small, vector_one}
 use Rattle.expressions.specs.Lists.{list_at, orderly}
 use Rattle.expressions.proofs.Listing.{list_count, list_order, list_elements, list_below}
-use Rattle.selections.specs.Choices.{answered, pick_layout, pick_guard}
+use Rattle.selections.specs.Choices.{answered, pick_guard}
 
 -- ---- a row whose indices were sought
 module _ (p : Place) (t u : Tables) (q : Plan) (x : Layout) (h : Ok x ≡ guarded p q) where

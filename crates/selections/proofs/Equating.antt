@@ -1,5 +1,5 @@
 -- Two values compared as wholes: the cells that the code compares are the elements that the rule names.
-use Rattle.std.proofs.Common.{◌≡◌, ℕ, ◌+◌, ◌*◌, ◌<◌, ◌≤◌, Bool, true, false, cond, ◌&&◌, ◌||◌, eqb, List, [], ◌∷◌, length, get_or, replicate, None, Ok, Result, sym, refl, ap, ◌∙◌, add-zero, arith}
+use Rattle.std.proofs.Common.{◌≡◌, ℕ, ◌+◌, ◌*◌, ◌<◌, ◌≤◌, Bool, true, false, cond, ◌&&◌, ◌||◌, eqb, List, length, get_or, replicate, Ok, sym, refl, ap, ◌∙◌, add-zero, arith}
 use Rattle.std.proofs.lemmas.Bool.{and_parts, eqb-true}
 use Rattle.types.specs.declared.kinds.Kind.{Kind}
 use Rattle.types.specs.declared.kinds.Kind.TheVariants.{Boolean, Character, Integer}
@@ -21,7 +21,7 @@ use Rattle.meaning.proofs.Shells.{never, tests}
 use Rattle.meaning.proofs.Rows.{as_cells, scalar_one, lawful_fixed, under_all}
 use Rattle.expressions.proofs.Bounding.{cells_one}
 use Rattle.tables.proofs.Same.{same_cells_sym}
-use Rattle.selections.specs.Equalities.{equates, equate_guard, same_at}
+use Rattle.selections.specs.Equalities.{equate_guard, same_at}
 
 own_kind : (k : Kind) → same_kind k k ≡ true
 own_kind Boolean = refl

@@ -1,5 +1,5 @@
 -- Rows that choose elements of a matrix: their tests and their elements are those of the rule, and few enough for the row.
-use Rattle.std.proofs.Common.{◌≡◌, ℕ, ◌+◌, ◌*◌, ◌<◌, ◌≤◌, Bool, true, false, cond, ◌&&◌, List, None, Ok, Result, sym, refl, ap, ◌∙◌, one-mul, mul-one, arith}
+use Rattle.std.proofs.Common.{◌≡◌, ℕ, ◌*◌, ◌<◌, ◌≤◌, Bool, true, false, cond, ◌&&◌, List, None, Ok, Result, sym, refl, ap, ◌∙◌, mul-one, arith}
 use Rattle.std.proofs.lemmas.Bool.{and_parts}
 use Rattle.types.specs.declared.kinds.Shape.{Shape}
 use Rattle.types.specs.declared.kinds.Shape.TheVariants.{Scalar, Vector, Matrix, Interval}
@@ -18,7 +18,7 @@ use Rattle.meaning.specs.Plans.{Plan}
 use Rattle.meaning.specs.States.{Tables, table_of, value_from}
 use Rattle.meaning.specs.Works.{guards, guarded}
 use Rattle.meaning.proofs.Shells.{never, tests}
-use Rattle.meaning.proofs.Rows.{Small, lawful_fixed, within_small, scalar_one}
+use Rattle.meaning.proofs.Rows.{lawful_fixed, within_small, scalar_one}
 use Rattle.expressions.specs.Lists.{list_at}
 use Rattle.selections.specs.Choices.{cross_guard}
 use Rattle.selections.proofs.Choosing.{read_order, read_count, read_indices}

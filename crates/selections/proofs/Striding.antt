@@ -1,5 +1,5 @@
 -- Every so many elements of a vector or an interval: the tests and the elements are those of the rule.
-use Rattle.std.proofs.Common.{◌≡◌, ℕ, ◌*◌, ◌<◌, ◌≤◌, Bool, true, false, cond, not, ◌&&◌, ◌||◌, leb, List, get_or, ℤ, pos, negsuc, None, Ok, Result, sym, refl, ap, ◌∙◌, one-mul, arith}
+use Rattle.std.proofs.Common.{◌≡◌, ℕ, ◌*◌, ◌<◌, ◌≤◌, Bool, true, false, cond, ◌&&◌, ◌||◌, leb, List, get_or, ℤ, pos, negsuc, None, Ok, sym, refl, ap, ◌∙◌, one-mul, arith}
 use lib.Signed.{le_z}
 use Rattle.std.proofs.lemmas.Bool.{and_parts, leb-true}
 use Rattle.types.specs.declared.kinds.Kind.{Kind}
@@ -7,7 +7,7 @@ use Rattle.types.specs.declared.kinds.Kind.TheVariants.{Boolean, Character, Inte
 use Rattle.types.specs.declared.kinds.Shape.{Shape}
 use Rattle.types.specs.declared.kinds.Shape.TheVariants.{Scalar, Vector, Matrix, Interval}
 use Rattle.types.specs.Types.{same_shape}
-use Rattle.types.specs.Typings.{is, of, alone}
+use Rattle.types.specs.Typings.{is, alone}
 use Rattle.element.specs.Cells.{cells, put}
 use Rattle.element.specs.Steps.{step_count, stepped}
 use Rattle.picks.specs.declared.indices.Index.{Index}
@@ -15,8 +15,8 @@ use Rattle.picks.specs.declared.indices.Index.TheVariants as list
 use Rattle.picks.specs.Indices.{amount, index_count, indices_of}
 use Rattle.meaning.specs.declared.layouts.Layout.{Layout}
 use Rattle.meaning.specs.declared.places.Place.{Place}
-use Rattle.meaning.specs.Values.{Cell, null_of, layout_of, vector_of, known, fixed, lawful, first}
-use Rattle.meaning.specs.Expressions.{in_order, count, listing, stepped_by}
+use Rattle.meaning.specs.Values.{null_of, layout_of, vector_of, known, lawful, first}
+use Rattle.meaning.specs.Expressions.{in_order, listing, stepped_by}
 use Rattle.meaning.specs.Plans.{Plan}
 use Rattle.meaning.specs.States.{Tables, table_of, with_table, value_from}
 use Rattle.meaning.specs.Works.{guards, guarded}
@@ -25,7 +25,7 @@ use Rattle.meaning.proofs.Rows.{lawful_fixed, vector_one}
 use Rattle.expressions.specs.Lists.{list_at, orderly}
 use Rattle.expressions.proofs.Listing.{list_elements}
 use Rattle.expressions.proofs.Bounding.{scalar_cell}
-use Rattle.selections.specs.Strides.{strides, step_guard, stepped_in}
+use Rattle.selections.specs.Strides.{step_guard, stepped_in}
 use Rattle.selections.proofs.Choosing.{read_order, read_count}
 
 -- a step is at least 1 where its amount is

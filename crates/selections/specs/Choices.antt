@@ -1,5 +1,5 @@
 -- Values that indices choose elements of: the tests, the layout of what is chosen, and the answer.
-use Rattle.std.specs.Prelude.{ℕ, true, cond, ◌&&◌, None, Ok, Err, Result}
+use Rattle.std.specs.Prelude.{true, cond, ◌&&◌, None, Ok, Err, Result}
 use Rattle.types.specs.declared.kinds.Kind.{Kind}
 use Rattle.types.specs.declared.kinds.Shape.TheVariants.{Scalar, Vector, Matrix}
 use Rattle.types.specs.Typings.{is, index}

@@ -1,6 +1,5 @@
 -- Two values that are compared as wholes: the tests, and whether their cells hold the same elements.
 use Rattle.std.specs.Prelude.{ℕ, Bool, true, cond, ◌&&◌, ◌||◌, replicate, None, Result, slice_index_or}
-use Rattle.types.specs.declared.kinds.Kind.{Kind}
 use Rattle.types.specs.declared.kinds.Kind.TheVariants.{Boolean}
 use Rattle.types.specs.declared.kinds.Shape.TheVariants.{Scalar, Interval}
 use Rattle.types.specs.Typings.{is, of, pairs, matches_spread}

@@ -1,4 +1,4 @@
-use Rattle.std.proofs.Common.{◌++◌, length, refl, arith}
+use Rattle.std.proofs.Common.{◌++◌, refl, arith}
 use Rattle.element.specs.Cells.{cells}
 use Rattle.meaning.specs.Expressions.{joined}
 use Rattle.meaning.specs.States.{tables, value_from}

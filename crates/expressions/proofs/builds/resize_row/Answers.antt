@@ -1,4 +1,4 @@
-use Rattle.std.proofs.Common.{◌*◌, length, refl, arith}
+use Rattle.std.proofs.Common.{◌*◌, refl, arith}
 use Rattle.element.specs.Cells.{cells, rows_of}
 use Rattle.element.specs.Matrices.{resized}
 use Rattle.meaning.specs.Expressions.{resized_to}

@@ -1,4 +1,4 @@
-use Rattle.std.proofs.Common.{◌*◌, max, length, refl, arith}
+use Rattle.std.proofs.Common.{◌*◌, max, refl, arith}
 use Rattle.element.specs.Cells.{cells, rows_of}
 use Rattle.element.specs.Matrices.{stacked}
 use Rattle.meaning.specs.Expressions.{stack}

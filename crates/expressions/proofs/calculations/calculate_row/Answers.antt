@@ -1,8 +1,7 @@
-use Rattle.std.proofs.Common.{List, [], ℤ, pos, sym, refl, arith}
+use Rattle.std.proofs.Common.{List, [], ℤ, refl, arith}
 use Rattle.types.specs.declared.kinds.Kind.TheVariants.{Integer}
 use Rattle.arithmetic.specs.Exact.{exact}
 use Rattle.elementwise.specs.Results.{collected, map2}
-use Rattle.elementwise.specs.Operands.{along}
 use Rattle.meaning.specs.Expressions.{calculated}
 use Rattle.meaning.specs.States.{tables, value_from}
 use Rattle.meaning.proofs.Shells.{refused_2, made_2}

@@ -1,9 +1,9 @@
-use Rattle.std.proofs.Common.{Bool, List, [], ℤ, Ok, Result, sym, refl, arith}
+use Rattle.std.proofs.Common.{Bool, List, [], ℤ, Ok, Result, refl, arith}
 use Rattle.types.specs.declared.kinds.Kind.TheVariants.{Boolean, Integer}
 use Rattle.arithmetic.specs.declared.faults.ElementFault.{ElementFault}
-use Rattle.arithmetic.specs.Truths.{ordered, decided}
+use Rattle.arithmetic.specs.Truths.{ordered}
 use Rattle.elementwise.specs.Results.{map2}
-use Rattle.meaning.specs.Expressions.{compared, decided_by}
+use Rattle.meaning.specs.Expressions.{compared}
 use Rattle.meaning.specs.States.{tables, value_from}
 use Rattle.meaning.proofs.Shells.{refused_2, made_2}
 use Rattle.meaning.proofs.Rows.{within_small}

@@ -1,4 +1,4 @@
-use Rattle.std.proofs.Common.{[], ◌∷◌, set, ℤ, pos, ap, ◌∙◌, arith, w32}
+use Rattle.std.proofs.Common.{set, ℤ, pos, ap, ◌∙◌, arith, w32}
 use mir.Facts.{to_z_pos}
 use Rattle.element.proofs.Writes.{put_one}
 use Rattle.expressions.proofs.integers.write_size.Goals as goal

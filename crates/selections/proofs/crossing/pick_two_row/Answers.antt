@@ -1,4 +1,4 @@
-use Rattle.std.proofs.Common.{sym, refl, ◌∙◌, arith, rules}
+use Rattle.std.proofs.Common.{◌∙◌, arith, rules}
 use Rattle.meaning.specs.Expressions.{pick_two}
 use Rattle.meaning.specs.States.{tables}
 use Rattle.meaning.proofs.Shells.{refused_3, made_3}

@@ -1,4 +1,4 @@
-use Rattle.std.proofs.Common.{sym, refl, ◌∙◌, arith}
+use Rattle.std.proofs.Common.{◌∙◌, arith}
 use Rattle.meaning.specs.Expressions.{pick}
 use Rattle.meaning.specs.States.{tables}
 use Rattle.meaning.proofs.Shells.{refused_2, made_2}

@@ -3,7 +3,6 @@ use Rattle.types.specs.declared.kinds.Kind.{Kind}
 use Rattle.types.specs.declared.kinds.Kind.TheVariants.{Boolean, Character, Integer}
 use Rattle.meaning.specs.declared.layouts.Layout.{Layout}
 use Rattle.meaning.specs.declared.places.Place.{Place}
-use Rattle.meaning.specs.Values.{lawful}
 use Rattle.meaning.specs.States.{Tables, tables, table_of, slip_of}
 use Rattle.meaning.specs.Works.{Ample}
 use Rattle.meaning.proofs.Rows.{under_all}
