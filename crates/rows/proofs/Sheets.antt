@@ -1,5 +1,5 @@
 -- What check shows of a sheet is what its rows ask: operands stand before, and a variable before the operands that it takes.
-use Rattle.std.proofs.Common.{◌≡◌, ℕ, ◌<◌, ◌≤◌, true, List, [], ◌∷◌, length, subst, ⊎_elim}
+use Rattle.std.proofs.Common.{◌≡◌, ℕ, ◌<◌, ◌≤◌, true, List, [], ◌∷◌, length, ⊎_elim}
 use Rattle.std.proofs.lemmas.Bool.{and_parts, cases_lt}
 use Rattle.types.specs.declared.typing.Typing.{Typing}
 use Rattle.instruction.specs.declared.instructions.Start.TheVariants.{Nulls, Value as Given}
@@ -15,6 +15,7 @@ use Rattle.checker.specs.Structure.{Structured, Visible, Ranging, says}
 use Rattle.checker.proofs.Near.{near_tells}
 use Rattle.laws.specs.Reads.{make_reads, AllUnder}
 use Rattle.meaning.proofs.Shells.{never}
+use Rattle.statements.proofs.Checked.{takes}
 use Rattle.rows.specs.Changing.{Reaches}
 
 declares_no_value : (i : Instruction) → declares i ≡ true → makes i ≡ true → ⊥
@@ -25,7 +26,7 @@ declares_no_value (Control u) d m = never d
 module _ (lines : List Line) (w : ℕ) (head : Typing) (sheet : Structured lines w head) (p : ℕ) (lt : p < length lines) where
   -- the rows that row p takes
   taken : (i : Instruction) → says lines p ≡ i → all (near lines p) (operands i) ≡ true
-  taken i e = subst (λ (j : Instruction). all (near lines p) (operands j) ≡ true) e (sheet.taken p lt)
+  taken = takes lines w head sheet p lt
 
   first : (a : ℕ) (cs : List ℕ) → all (near lines p) (a ∷ cs) ≡ true → near lines p a ≡ true
   first a cs h = (and_parts (near lines p a) (all (near lines p) cs) h).0

@@ -1,8 +1,7 @@
--- What check shows of a sheet is what its statement rows ask.
+-- What check shows of a whole sheet is what its control rows ask, and which rows a row takes.
 use Rattle.std.proofs.Common.{◌≡◌, ℕ, ◌<◌, true, ltb, List, [], ◌∷◌, length, sym, refl, subst, arith}
 use Rattle.std.proofs.lemmas.Bool.{and_parts, ltb-true}
 use Rattle.types.specs.declared.typing.Typing.{Typing}
-use Rattle.instruction.specs.declared.instructions.Change.TheVariants as change
 use Rattle.instruction.specs.declared.instructions.Control.{Control as Turn}
 use Rattle.instruction.specs.declared.instructions.Control.TheVariants as control
 use Rattle.instruction.specs.declared.instructions.Instruction.{Instruction}
@@ -19,7 +18,7 @@ module _ (lines : List Line) (w : ℕ) (head : Typing) (sheet : Structured lines
       ltb-true a p (and_parts (ltb a p) _ n).0
 
   -- the rows that row p takes
-  takes : (p : ℕ) → p < length lines → (i : Instruction) → says lines p ≡ i → all (near lines p) (operands i) ≡ true
+  pub takes : (p : ℕ) → p < length lines → (i : Instruction) → says lines p ≡ i → all (near lines p) (operands i) ≡ true
   takes p lt i e = subst (λ (j : Instruction). all (near lines p) (operands j) ≡ true) e (sheet.taken p lt)
 
   domain_of : (p : ℕ) → p < length lines → (i : Instruction) → says lines p ≡ i → DomainBefore p i
@@ -47,13 +46,3 @@ module _ (lines : List Line) (w : ℕ) (head : Typing) (sheet : Structured lines
   ready p lt control.Break is = tt
   ready p lt control.Continue is = goes_back p (at lines p).target lt (sheet.resumed p lt is).around.before
   ready p lt (control.End b) is = let e = sheet.ended p b lt is in goes_back p (at lines p).target lt (subst (λ (i : ℕ). i < p) (sym e.3) e.1)
-
-  -- ---- what other rows take
-  pub printed_before : (p a : ℕ) → p < length lines → says lines p ≡ Change (change.Print a) → a < p
-  printed_before p a lt is = one_before p a (takes p lt (Change (change.Print a)) is)
-
-  pub returned_before : (p a : ℕ) → p < length lines → says lines p ≡ Change (change.Return a) → a < p
-  returned_before p a lt is = one_before p a (takes p lt (Change (change.Return a)) is)
-
-  pub read_before : (p v : ℕ) → p < length lines → says lines p ≡ Change (change.Read v) → v < p
-  read_before p v lt is = (sheet.filled p v lt is).before

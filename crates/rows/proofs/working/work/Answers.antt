@@ -1,6 +1,10 @@
 -- Check shows what each kind of row asks, and what the row's line says the row does.
+use Rattle.std.proofs.Common.{sym, subst}
+use Rattle.checker.specs.declared.line.Line.{Line}
 use Rattle.instruction.specs.declared.instructions.Instruction.TheVariants.{Expression, Change, Control}
 use Rattle.statements.specs.Frames.{state_of}
+use Rattle.statements.specs.Ready.{Ready}
+use Rattle.statements.proofs.Checked.{ready}
 use Rattle.rows.proofs.Expressing.{acts_by, says_so}
 use Rattle.rows.proofs.Sheets.{reads_under, reaches}
 use Rattle.rows.proofs.working.work.Goals as goal
@@ -16,6 +20,14 @@ change_row-requires-clause-reaches g c =
     let a = c.args in
     reaches a.lines.now a.place.width a.head c.requires.sheet a.place.row c.requires.inside c.in-Change.change
     (says_so a.lines.now a.place.row c.line_of-line.result (Change c.in-Change.change) c.line_of-line.ensures c.in-Change.is)
+
+pub control_row-requires-clause-ready : goal.control_row-requires-clause-ready
+control_row-requires-clause-ready g c =
+    let a = c.args in
+    let line = c.line_of-line in
+    let own = ready a.lines.now a.place.width a.head c.requires.sheet a.place.row c.requires.inside c.in-Control.control
+    (says_so a.lines.now a.place.row line.result (Control c.in-Control.control) line.ensures c.in-Control.is) in
+    subst (λ (l : Line). Ready a.lines.now a.place.row l.target c.in-Control.control) (sym line.ensures) own
 
 pub returns-in-Expression-clause-acts : goal.returns-in-Expression-clause-acts
 returns-in-Expression-clause-acts g c =
