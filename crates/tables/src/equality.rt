@@ -2,9 +2,11 @@
 ghost use Rattle.std.specs.Prelude.{◌≡◌, ◌+◌, ◌<◌, ◌≤◌, length, replicate, Decides, slice_index_or};
 ghost use Rattle.element.specs.Cells.{cells};
 ghost use Rattle.meaning.specs.Elements.{same_cells};
-ghost use Rattle.meaning.specs.States.{tables, table_of};
+ghost use Rattle.meaning.specs.States.{table_of};
 ghost use Rattle.meaning.specs.Values.{null_of};
+ghost use Rattle.tables.specs.Lent.{held, Reach};
 
+use crate::lent::Tables;
 use element::{Element, equality};
 use types::Kind;
 
@@ -17,52 +19,30 @@ fn equal_to_cell<E: Element>(table: &[E], at: usize, n: usize, scalar: usize) ->
     equality::equal_throughout(table, at, n, table[scalar])
 }
 
-/// Whether the n cells from `a` on hold what the n cells from `b` on hold.
-pub fn equal(
-    kind: Kind,
-    a: usize,
-    b: usize,
-    n: usize,
-    booleans: &[bool],
-    characters: &[i8],
-    integers: &[i32],
-) -> bool
-    requires left_booleans { a + n ≤ length booleans.now }
-    requires left_characters { a + n ≤ length characters.now }
-    requires left_integers { a + n ≤ length integers.now }
-    requires right_booleans { b + n ≤ length booleans.now }
-    requires right_characters { b + n ≤ length characters.now }
-    requires right_integers { b + n ≤ length integers.now }
-    ensures { result ≡ same_cells kind (cells (table_of kind (tables booleans.now characters.now integers.now)) a n) (cells (table_of kind (tables booleans.now characters.now integers.now)) b n) }
-{
-    match kind {
-        Kind::Boolean => equality::equal(booleans, a, b, n),
-        Kind::Character => equality::equal(characters, a, b, n),
-        Kind::Integer => equality::equal(integers, a, b, n),
+impl Tables<'_> {
+    /// Whether the n cells from `a` on hold what the n cells from `b` on hold.
+    pub fn equal(&self, kind: Kind, a: usize, b: usize, n: usize) -> bool
+        requires left { Reach (a + n) (held self.now) }
+        requires right { Reach (b + n) (held self.now) }
+        ensures { result ≡ same_cells kind (cells (table_of kind (held self.now)) a n) (cells (table_of kind (held self.now)) b n) }
+    {
+        match kind {
+            Kind::Boolean => equality::equal(self.booleans, a, b, n),
+            Kind::Character => equality::equal(self.characters, a, b, n),
+            Kind::Integer => equality::equal(self.integers, a, b, n),
+        }
     }
-}
 
-/// Whether each of the n cells from `at` on holds what the cell `scalar` holds.
-pub fn equal_throughout(
-    kind: Kind,
-    at: usize,
-    n: usize,
-    scalar: usize,
-    booleans: &[bool],
-    characters: &[i8],
-    integers: &[i32],
-) -> bool
-    requires scalar_booleans { scalar < length booleans.now }
-    requires scalar_characters { scalar < length characters.now }
-    requires scalar_integers { scalar < length integers.now }
-    requires booleans { at + n ≤ length booleans.now }
-    requires characters { at + n ≤ length characters.now }
-    requires integers { at + n ≤ length integers.now }
-    ensures { result ≡ same_cells kind (cells (table_of kind (tables booleans.now characters.now integers.now)) at n) (replicate n (slice_index_or (table_of kind (tables booleans.now characters.now integers.now)) scalar (null_of kind))) }
-{
-    match kind {
-        Kind::Boolean => equal_to_cell(booleans, at, n, scalar),
-        Kind::Character => equal_to_cell(characters, at, n, scalar),
-        Kind::Integer => equal_to_cell(integers, at, n, scalar),
+    /// Whether each of the n cells from `at` on holds what the cell `scalar` holds.
+    pub fn equal_throughout(&self, kind: Kind, at: usize, n: usize, scalar: usize) -> bool
+        requires scalar { Reach (scalar + 1) (held self.now) }
+        requires within { Reach (at + n) (held self.now) }
+        ensures { result ≡ same_cells kind (cells (table_of kind (held self.now)) at n) (replicate n (slice_index_or (table_of kind (held self.now)) scalar (null_of kind))) }
+    {
+        match kind {
+            Kind::Boolean => equal_to_cell(self.booleans, at, n, scalar),
+            Kind::Character => equal_to_cell(self.characters, at, n, scalar),
+            Kind::Integer => equal_to_cell(self.integers, at, n, scalar),
+        }
     }
 }

@@ -2,13 +2,15 @@
 ghost use Rattle.std.specs.Prelude.{◌≡◌, ◌+◌, ◌*◌, ◌<◌, ◌≤◌, true, [], ◌∷◌, length};
 ghost use Rattle.element.specs.Cells.{put, cells};
 ghost use Rattle.meaning.specs.Reading.{reading, unread};
-ghost use Rattle.meaning.specs.States.{tables, table_of, with_table};
+ghost use Rattle.meaning.specs.States.{table_of, with_table};
 ghost use Rattle.meaning.specs.Texts.{shape_text};
 ghost use Rattle.meaning.specs.Values.{layout_of, fixed};
 ghost use Rattle.print.specs.Texts.{Printed};
 ghost use Rattle.source.specs.Taking.{gone, counted};
 ghost use Rattle.tables.specs.Shapes.{shaped_text};
+ghost use Rattle.tables.specs.Lent.{held, Kept, Reach};
 
+use crate::lent::Tables;
 use element::Element;
 use print::{print_matrix, print_scalar, print_vector};
 use source::{Source, StreamState, read_boolean, read_character, read_integer};
@@ -39,68 +41,63 @@ fn print_cells<E: Element>(
     }
 }
 
-/// Prints a value of this kind and shape, whose r × s cells begin at `at`, into the output from `printed` on, and says where its text ends. Of an interval it prints nothing.
-pub fn print(
-    kind: Kind,
-    shape: Shape,
-    r: usize,
-    s: usize,
-    at: usize,
-    output: &mut [u8],
-    printed: usize,
-    booleans: &[bool],
-    characters: &[i8],
-    integers: &[i32],
-) -> Option<usize>
-    requires fixed { fixed (layout_of kind shape r s) ≡ true }
-    requires rows { r ≤ 1024 }
-    requires columns { s ≤ 1024 }
-    requires place { printed ≤ length output.old }
-    requires booleans { at + r * s ≤ length booleans.now }
-    requires characters { at + r * s ≤ length characters.now }
-    requires integers { at + r * s ≤ length integers.now }
-    ensures { Printed (shape_text shape kind r s (cells (table_of kind (tables booleans.now characters.now integers.now)) at (r * s))) output.old printed result output.new }
-{
-    match kind {
-        Kind::Boolean => print_cells(shape, r, s, at, output, printed, booleans),
-        Kind::Character => print_cells(shape, r, s, at, output, printed, characters),
-        Kind::Integer => print_cells(shape, r, s, at, output, printed, integers),
+impl Tables<'_> {
+    /// Prints a value of this kind and shape, whose r × s cells begin at `at`, into the output from `printed` on, and says where its text ends. Of an interval it prints nothing.
+    pub fn print(
+        &self,
+        kind: Kind,
+        shape: Shape,
+        r: usize,
+        s: usize,
+        at: usize,
+        output: &mut [u8],
+        printed: usize,
+    ) -> Option<usize>
+        requires fixed { fixed (layout_of kind shape r s) ≡ true }
+        requires rows { r ≤ 1024 }
+        requires columns { s ≤ 1024 }
+        requires place { printed ≤ length output.old }
+        requires within { Reach (at + r * s) (held self.now) }
+        ensures { Printed (shape_text shape kind r s (cells (table_of kind (held self.now)) at (r * s))) output.old printed result output.new }
+    {
+        match kind {
+            Kind::Boolean => print_cells(shape, r, s, at, output, printed, self.booleans),
+            Kind::Character => print_cells(shape, r, s, at, output, printed, self.characters),
+            Kind::Integer => print_cells(shape, r, s, at, output, printed, self.integers),
+        }
     }
-}
 
-/// Reads a value of a kind from the source into the cell `to`, and says how the read went.
-pub fn read<S: Source>(
-    kind: Kind,
-    source: &mut S,
-    taken: &mut u32,
-    to: usize,
-    booleans: &mut [bool],
-    characters: &mut [i8],
-    integers: &mut [i32],
-) -> StreamState
-    requires booleans { to < length booleans.old }
-    requires characters { to < length characters.old }
-    requires integers { to < length integers.old }
-    ensures written { tables booleans.new characters.new integers.new ≡ with_table kind (tables booleans.old characters.old integers.old) (put (table_of kind (tables booleans.old characters.old integers.old)) to ((reading kind (S.waiting source.old)).value ∷ [])) }
-    ensures told { result ≡ (reading kind (S.waiting source.old)).state }
-    ensures waits { S.waiting source.new ≡ unread kind (S.waiting source.old) }
-    ensures took { taken.new ≡ counted taken.old (gone (S.waiting source.old) (S.waiting source.new)) }
-{
-    match kind {
-        Kind::Boolean => {
-            let got = read_boolean(source, taken);
-            booleans[to] = got.value;
-            got.state
-        }
-        Kind::Character => {
-            let got = read_character(source, taken);
-            characters[to] = got.value;
-            got.state
-        }
-        Kind::Integer => {
-            let got = read_integer(source, taken);
-            integers[to] = got.value;
-            got.state
+    /// Reads a value of a kind from the source into the cell `to`, and says how the read went.
+    pub fn read<S: Source>(
+        &mut self,
+        kind: Kind,
+        source: &mut S,
+        taken: &mut u32,
+        to: usize,
+    ) -> StreamState
+        requires within { Reach (to + 1) (held self.old) }
+        ensures written { held self.new ≡ with_table kind (held self.old) (put (table_of kind (held self.old)) to ((reading kind (S.waiting source.old)).value ∷ [])) }
+        ensures told { result ≡ (reading kind (S.waiting source.old)).state }
+        ensures waits { S.waiting source.new ≡ unread kind (S.waiting source.old) }
+        ensures took { taken.new ≡ counted taken.old (gone (S.waiting source.old) (S.waiting source.new)) }
+        ensures lent { Kept self.old self.new }
+    {
+        match kind {
+            Kind::Boolean => {
+                let got = read_boolean(source, taken);
+                self.booleans[to] = got.value;
+                got.state
+            }
+            Kind::Character => {
+                let got = read_character(source, taken);
+                self.characters[to] = got.value;
+                got.state
+            }
+            Kind::Integer => {
+                let got = read_integer(source, taken);
+                self.integers[to] = got.value;
+                got.state
+            }
         }
     }
 }

@@ -1,0 +1,21 @@
+use Rattle.element.specs.Cells.{cells}
+use Rattle.element.specs.Steps.{stepped}
+use Rattle.tables.specs.Lent.{held}
+use Rattle.meaning.specs.Values.{null_of}
+use Rattle.tables.proofs.Changing.{changed_boolean, changed_character, changed_integer}
+use Rattle.tables.proofs.lent.Tables.step_by.Goals as goal
+
+pub returns-in-Boolean-clause-value : goal.returns-in-Boolean-clause-value
+returns-in-Boolean-clause-value c =
+    let a = c.args in
+    changed_boolean _ (held a.self.now) _ (λ k T. stepped (null_of k) a.step (cells T a.from a.n)) c.in-Boolean.is c.step_by.ensures
+
+pub returns-in-Character-clause-value : goal.returns-in-Character-clause-value
+returns-in-Character-clause-value c =
+    let a = c.args in
+    changed_character _ (held a.self.now) _ (λ k T. stepped (null_of k) a.step (cells T a.from a.n)) c.in-Character.is c.step_by-in-Character.ensures
+
+pub returns-in-Integer-clause-value : goal.returns-in-Integer-clause-value
+returns-in-Integer-clause-value c =
+    let a = c.args in
+    changed_integer _ (held a.self.now) _ (λ k T. stepped (null_of k) a.step (cells T a.from a.n)) c.in-Integer.is c.step_by-in-Integer.ensures
