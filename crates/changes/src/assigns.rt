@@ -2,17 +2,18 @@
 ghost use Rattle.std.specs.Prelude.{◌≡◌, ◌+◌, ◌*◌, ◌<◌, ◌≤◌, true, length, IfOk};
 ghost use Rattle.meaning.specs.Changes.{assigned};
 ghost use Rattle.meaning.specs.Expressions.{by2};
-ghost use Rattle.meaning.specs.States.{tables, value_from, value_in};
+ghost use Rattle.meaning.specs.States.{value_from, value_in};
 ghost use Rattle.meaning.specs.Values.{lawful, within};
-ghost use Rattle.meaning.specs.Works.{Ample, Filled, changed};
+ghost use Rattle.meaning.specs.Works.{Filled, changed};
 ghost use Rattle.changes.specs.Assigns.{assign_guard, giving, Given};
+ghost use Rattle.tables.specs.Lent.{held, Holds, Kept, Reach};
 
 use crate::moves::{copy_down, unfold_interval};
 use expressions::lists::{is_orderly, list_at};
 use fault::{Cause, Fault};
 use meaning::{Layout, Place, Slip};
 use rules::statements::can_take;
-use tables::moves::spread;
+use tables::Tables;
 use types::Shape;
 
 /// The layout of the variable x, where it may take the value y, which lies at row a.
@@ -21,12 +22,12 @@ fn guard_assign(
     a: u16,
     x: Layout,
     y: Layout,
-    integers: &[i32],
+    tables: &Tables,
 ) -> Result<Layout, Fault>
     requires before { a < place.row }
     requires lawful { lawful place.width y ≡ true }
-    requires ample { place.row * place.width + place.width ≤ length integers.now }
-    ensures is { result ≡ assign_guard place integers.now a x y }
+    requires ample { place.row * place.width + place.width ≤ length tables.now.integers.now }
+    ensures is { result ≡ assign_guard place tables.now.integers.now a x y }
     ensures within { IfOk result (λ f. within place.width f.r f.s ≡ true) }
 {
     if !can_take(x.typing(), y.typing()) {
@@ -35,38 +36,30 @@ fn guard_assign(
     if x.shape.same(y.shape) {
         return place.guard(true, true, None, x, x.matches(y));
     }
-    let list = list_at(place, a, y, integers);
+    let list = list_at(place, a, y, tables);
     let count = list.count();
     let agree = Shape::Scalar.same(y.shape) || count == x.s;
     place.guard(true, is_orderly(list), Some(count), x, agree)
 }
 
 /// Writes the value y of row a into the variable x of row v: its elements, a scalar into every cell, or the integers of an interval.
-fn write_value(
-    place: Place,
-    v: u16,
-    a: u16,
-    x: Layout,
-    y: Layout,
-    booleans: &mut [bool],
-    characters: &mut [i8],
-    integers: &mut [i32],
-)
+fn write_value(place: Place, v: u16, a: u16, x: Layout, y: Layout, tables: &mut Tables)
     requires before { a < place.row }
     requires under { v < a }
-    requires given { Given place.width integers.old a x y }
-    requires ample { Ample place (length booleans.old) (length characters.old) (length integers.old) }
-    ensures { tables booleans.new characters.new integers.new ≡ changed x.kind (tables booleans.old characters.old integers.old) (v * place.width) (λ k T. giving k x (value_from place.width (tables booleans.old characters.old integers.old) a y)) }
+    requires given { Given place.width tables.old.integers.now a x y }
+    requires ample { Holds place tables.old }
+    ensures value { held tables.new ≡ changed x.kind (held tables.old) (v * place.width) (λ k T. giving k x (value_from place.width (held tables.old) a y)) }
+    ensures lent { Kept tables.old tables.new }
 {
     let from = place.start_of(a);
     let to = place.start_of(v);
     let n = x.area(place.width);
     if x.shape.same(y.shape) {
-        copy_down(x.kind, from, n, to, booleans, characters, integers);
+        copy_down(x.kind, from, n, to, tables);
     } else if Shape::Scalar.same(y.shape) {
-        spread(x.kind, from, to, n, booleans, characters, integers);
+        tables.spread(x.kind, from, to, n);
     } else {
-        unfold_interval(integers, from, to);
+        unfold_interval(tables.integers, from, to);
     }
 }
 
@@ -76,19 +69,18 @@ pub fn assign_row(
     v: u16,
     a: u16,
     slips: &[Slip],
-    booleans: &mut [bool],
-    characters: &mut [i8],
-    integers: &mut [i32],
+    tables: &mut Tables,
 ) -> Result<Layout, Fault>
     requires before { a < place.row }
     requires under { v < a }
-    requires ample { Ample place (length booleans.old) (length characters.old) (length integers.old) }
-    ensures filled { Filled place v (by2 place.width (value_in place.width slips.now (tables booleans.old characters.old integers.old)) v a assigned) (tables booleans.old characters.old integers.old) result (tables booleans.new characters.new integers.new) }
+    requires ample { Holds place tables.old }
+    ensures filled { Filled place v (by2 place.width (value_in place.width slips.now (held tables.old)) v a assigned) (held tables.old) result (held tables.new) }
     ensures within { IfOk result (λ f. within place.width f.r f.s ≡ true) }
+    ensures lent { Kept tables.old tables.new }
 {
     let x = place.operand(slips, v)?;
     let y = place.operand(slips, a)?;
-    let form = guard_assign(place, a, x, y, integers)?;
-    write_value(place, v, a, x, y, booleans, characters, integers);
+    let form = guard_assign(place, a, x, y, tables)?;
+    write_value(place, v, a, x, y, tables);
     Ok(form)
 }

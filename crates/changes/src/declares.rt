@@ -5,17 +5,18 @@ ghost use Rattle.types.specs.Types.{fits_in};
 ghost use Rattle.meaning.specs.Changes.{nulls, declared};
 ghost use Rattle.meaning.specs.Expressions.{by1, size_or};
 ghost use Rattle.meaning.specs.Plans.{outcome};
-ghost use Rattle.meaning.specs.States.{tables, value_from, value_in};
+ghost use Rattle.meaning.specs.States.{value_from, value_in};
 ghost use Rattle.meaning.specs.Values.{lawful, within};
-ghost use Rattle.meaning.specs.Works.{Ample, Filled, guarded, changed};
+ghost use Rattle.meaning.specs.Works.{Filled, guarded, changed};
 ghost use Rattle.changes.specs.Declares.{fills, begins, layout_for, room_for, declare_guard, Begun, beginning};
+ghost use Rattle.tables.specs.Lent.{held, Holds, Kept, Reach};
 
 use crate::moves::unfold_padded;
 use expressions::lists::{is_orderly, list_at};
 use fault::{Cause, Fault};
 use meaning::{Layout, Place, Slip};
 use rules::statements::can_take;
-use tables::moves::{fill_nulls, resize_matrix, spread};
+use tables::Tables;
 use types::{Shape, Size, Typing};
 
 /// The written size, or n where none is written.
@@ -43,21 +44,16 @@ fn guard_nulls(place: Place, w: Typing) -> Result<Layout, Fault>
 }
 
 /// A variable of nulls.
-pub fn declare_nulls(
-    place: Place,
-    w: Typing,
-    booleans: &mut [bool],
-    characters: &mut [i8],
-    integers: &mut [i32],
-) -> Result<Layout, Fault>
-    requires { Ample place (length booleans.old) (length characters.old) (length integers.old) }
-    ensures filled { Filled place place.row (outcome place.width (nulls w)) (tables booleans.old characters.old integers.old) result (tables booleans.new characters.new integers.new) }
+pub fn declare_nulls(place: Place, w: Typing, tables: &mut Tables) -> Result<Layout, Fault>
+    requires { Holds place tables.old }
+    ensures filled { Filled place place.row (outcome place.width (nulls w)) (held tables.old) result (held tables.new) }
     ensures within { IfOk result (λ f. within place.width f.r f.s ≡ true) }
+    ensures lent { Kept tables.old tables.new }
 {
     let form = guard_nulls(place, w)?;
     let to = place.start_of(place.row);
     let n = form.r * form.s;
-    fill_nulls(form.kind, to, n, booleans, characters, integers);
+    tables.fill_nulls(form.kind, to, n);
     Ok(form)
 }
 
@@ -110,12 +106,12 @@ fn guard_declare(
     w: Typing,
     a: u16,
     y: Layout,
-    integers: &[i32],
+    tables: &Tables,
 ) -> Result<Layout, Fault>
     requires before { a < place.row }
     requires lawful { lawful place.width y ≡ true }
-    requires ample { place.row * place.width + place.width ≤ length integers.now }
-    ensures is { result ≡ declare_guard place integers.now a w y }
+    requires ample { place.row * place.width + place.width ≤ length tables.now.integers.now }
+    ensures is { result ≡ declare_guard place tables.now.integers.now a w y }
     ensures within { IfOk result (λ f. within place.width f.r f.s ≡ true) }
 {
     if !can_begin(w, y) {
@@ -125,7 +121,7 @@ fn guard_declare(
         let layout = layout_for(w, y, y.s);
         return place.guard(true, true, None, layout, has_room(w, y, y.s));
     }
-    let list = list_at(place, a, y, integers);
+    let list = list_at(place, a, y, tables);
     let count = list.count();
     let layout = layout_for(w, y, count);
     let agree = Shape::Scalar.same(y.shape) || has_room(w, y, count);
@@ -134,39 +130,21 @@ fn guard_declare(
 
 /// Writes the value y of row a into the cells of the row: padded with nulls, a scalar into every cell, or the integers of an
 /// interval with nulls behind them.
-fn write_beginning(
-    place: Place,
-    w: Typing,
-    a: u16,
-    y: Layout,
-    form: Layout,
-    booleans: &mut [bool],
-    characters: &mut [i8],
-    integers: &mut [i32],
-)
+fn write_beginning(place: Place, w: Typing, a: u16, y: Layout, form: Layout, tables: &mut Tables)
     requires before { a < place.row }
-    requires begun { Begun place.width integers.old a w y form }
-    requires ample { Ample place (length booleans.old) (length characters.old) (length integers.old) }
-    ensures { tables booleans.new characters.new integers.new ≡ changed w.kind (tables booleans.old characters.old integers.old) (place.row * place.width) (λ k T. beginning k w form (value_from place.width (tables booleans.old characters.old integers.old) a y)) }
+    requires begun { Begun place.width tables.old.integers.now a w y form }
+    requires ample { Holds place tables.old }
+    ensures value { held tables.new ≡ changed w.kind (held tables.old) (place.row * place.width) (λ k T. beginning k w form (value_from place.width (held tables.old) a y)) }
+    ensures lent { Kept tables.old tables.new }
 {
     let from = place.start_of(a);
     let to = place.start_of(place.row);
     if w.shape.same(y.shape) {
-        resize_matrix(
-            w.kind, from, y.r, y.s, to, form.r, form.s, booleans, characters, integers,
-        );
+        tables.resize_matrix(w.kind, from, y.r, y.s, to, form.r, form.s);
     } else if Shape::Scalar.same(y.shape) {
-        spread(
-            w.kind,
-            from,
-            to,
-            form.r * form.s,
-            booleans,
-            characters,
-            integers,
-        );
+        tables.spread(w.kind, from, to, form.r * form.s);
     } else {
-        unfold_padded(integers, from, to, form.r * form.s);
+        unfold_padded(tables.integers, from, to, form.r * form.s);
     }
 }
 
@@ -176,17 +154,16 @@ pub fn declare_row(
     w: Typing,
     a: u16,
     slips: &[Slip],
-    booleans: &mut [bool],
-    characters: &mut [i8],
-    integers: &mut [i32],
+    tables: &mut Tables,
 ) -> Result<Layout, Fault>
     requires before { a < place.row }
-    requires ample { Ample place (length booleans.old) (length characters.old) (length integers.old) }
-    ensures filled { Filled place place.row (by1 place.width (value_in place.width slips.now (tables booleans.old characters.old integers.old)) a (declared w)) (tables booleans.old characters.old integers.old) result (tables booleans.new characters.new integers.new) }
+    requires ample { Holds place tables.old }
+    ensures filled { Filled place place.row (by1 place.width (value_in place.width slips.now (held tables.old)) a (declared w)) (held tables.old) result (held tables.new) }
     ensures within { IfOk result (λ f. within place.width f.r f.s ≡ true) }
+    ensures lent { Kept tables.old tables.new }
 {
     let y = place.operand(slips, a)?;
-    let form = guard_declare(place, w, a, y, integers)?;
-    write_beginning(place, w, a, y, form, booleans, characters, integers);
+    let form = guard_declare(place, w, a, y, tables)?;
+    write_beginning(place, w, a, y, form, tables);
     Ok(form)
 }

@@ -2,13 +2,14 @@
 ghost use Rattle.std.specs.Prelude.{◌≡◌, ◌+◌, ◌-◌, ◌<◌, ◌≤◌, ◌++◌, length, replicate, pos, slice_index_or};
 ghost use Rattle.element.specs.Cells.{put, cells};
 ghost use Rattle.picks.specs.Indices.{spanned, between};
-ghost use Rattle.meaning.specs.States.{tables};
 ghost use Rattle.meaning.specs.Works.{changed};
+ghost use Rattle.tables.specs.Lent.{held, Holds, Kept, Reach};
 
 use element::Element;
 use element::cells::spread;
 use picks::indices::span;
 use picks::intervals::write_interval;
+use tables::Tables;
 use types::Kind;
 
 /// Writes the n cells from `from` on, which lie above, from `to` on in one table.
@@ -23,25 +24,16 @@ fn copy_cells_down<E: Element>(table: &mut [E], from: usize, n: usize, to: usize
 }
 
 /// Writes the n cells from `from` on, which lie above, from `to` on in the table of a kind.
-pub fn copy_down(
-    kind: Kind,
-    from: usize,
-    n: usize,
-    to: usize,
-    booleans: &mut [bool],
-    characters: &mut [i8],
-    integers: &mut [i32],
-)
+pub fn copy_down(kind: Kind, from: usize, n: usize, to: usize, tables: &mut Tables)
     requires above { to + n ≤ from }
-    requires booleans { from + n ≤ length booleans.old }
-    requires characters { from + n ≤ length characters.old }
-    requires integers { from + n ≤ length integers.old }
-    ensures { tables booleans.new characters.new integers.new ≡ changed kind (tables booleans.old characters.old integers.old) to (λ k T. cells T from n) }
+    requires within { Reach (from + n) (held tables.old) }
+    ensures value { held tables.new ≡ changed kind (held tables.old) to (λ k T. cells T from n) }
+    ensures lent { Kept tables.old tables.new }
 {
     match kind {
-        Kind::Boolean => copy_cells_down(booleans, from, n, to),
-        Kind::Character => copy_cells_down(characters, from, n, to),
-        Kind::Integer => copy_cells_down(integers, from, n, to),
+        Kind::Boolean => copy_cells_down(tables.booleans, from, n, to),
+        Kind::Character => copy_cells_down(tables.characters, from, n, to),
+        Kind::Integer => copy_cells_down(tables.integers, from, n, to),
     }
 }
 

@@ -5,16 +5,17 @@ ghost use Rattle.picks.specs.Indices.{first_outside2, place_of};
 ghost use Rattle.meaning.specs.Changes.{stored_at, stored_at_two};
 ghost use Rattle.meaning.specs.Expressions.{by3};
 ghost use Rattle.meaning.specs.Plans.{with};
-ghost use Rattle.meaning.specs.States.{tables, value_in};
+ghost use Rattle.meaning.specs.States.{value_in};
 ghost use Rattle.meaning.specs.Values.{null_of, lawful, within};
-ghost use Rattle.meaning.specs.Works.{Ample, Filled, guards, changed, Chosen};
+ghost use Rattle.meaning.specs.Works.{Filled, guards, changed, Chosen};
 ghost use Rattle.changes.specs.Stores.{stores, stores_two, store_guard, values_at, indexed};
+ghost use Rattle.tables.specs.Lent.{held, Holds, Kept, Reach};
 
 use expressions::lists::{is_orderly, list_at};
 use fault::{Cause, Fault};
 use meaning::{Layout, Place, Slip};
 use picks::{Outside, Values};
-use tables::indices::{store, store_matrix};
+use tables::Tables;
 use types::{Kind, Shape};
 
 /// The layout of the variable, or the fault of an index that names none of its elements.
@@ -45,18 +46,18 @@ fn guard_store(
     x: Layout,
     y: Layout,
     z: Layout,
-    integers: &[i32],
+    tables: &Tables,
 ) -> Result<Layout, Fault>
     requires before { b < place.row }
     requires lawful { lawful place.width y ≡ true }
-    requires ample { place.row * place.width + place.width ≤ length integers.now }
-    ensures is { result ≡ store_guard place integers.now b x y z }
+    requires ample { place.row * place.width + place.width ≤ length tables.now.integers.now }
+    ensures is { result ≡ store_guard place tables.now.integers.now b x y z }
     ensures within { IfOk result (λ f. within place.width f.r f.s ≡ true) }
 {
     if !can_store(x, y, z) {
         return Err(place.fault(Cause::NoRule, 0));
     }
-    let index = list_at(place, b, y, integers);
+    let index = list_at(place, b, y, tables);
     let count = index.count();
     let agree = Shape::Scalar.same(z.shape) || count == z.s;
     place.guard(true, is_orderly(index), Some(count), x, agree)
@@ -79,28 +80,25 @@ pub fn store_row(
     b: u16,
     c: u16,
     slips: &[Slip],
-    booleans: &mut [bool],
-    characters: &mut [i8],
-    integers: &mut [i32],
+    tables: &mut Tables,
 ) -> Result<Layout, Fault>
     requires index { b < place.row }
     requires value { c < place.row }
     requires under_index { v < b }
     requires under_value { v < c }
-    requires ample { Ample place (length booleans.old) (length characters.old) (length integers.old) }
-    ensures filled { Filled place v (by3 place.width (value_in place.width slips.now (tables booleans.old characters.old integers.old)) v b c stored_at) (tables booleans.old characters.old integers.old) result (tables booleans.new characters.new integers.new) }
+    requires ample { Holds place tables.old }
+    ensures filled { Filled place v (by3 place.width (value_in place.width slips.now (held tables.old)) v b c stored_at) (held tables.old) result (held tables.new) }
     ensures within { IfOk result (λ f. within place.width f.r f.s ≡ true) }
+    ensures lent { Kept tables.old tables.new }
 {
     let x = place.operand(slips, v)?;
     let y = place.operand(slips, b)?;
     let z = place.operand(slips, c)?;
-    let form = guard_store(place, b, x, y, z, integers)?;
+    let form = guard_store(place, b, x, y, z, tables)?;
     let to = place.start_of(v);
-    let index = list_at(place, b, y, integers);
+    let index = list_at(place, b, y, tables);
     let values = values_at(place, c, z);
-    let stored = store(
-        form.kind, to, form.s, index, values, booleans, characters, integers,
-    );
+    let stored = tables.store(form.kind, to, form.s, index, values);
     indexed(place, form, stored)
 }
 
@@ -113,22 +111,17 @@ fn store_at_cells(
     row: usize,
     column: usize,
     from: usize,
-    booleans: &mut [bool],
-    characters: &mut [i8],
-    integers: &mut [i32],
+    tables: &mut Tables,
 ) -> Result<(), Outside>
-    requires row { row < length integers.old }
-    requires column { column < length integers.old }
-    requires from_booleans { from < length booleans.old }
-    requires from_characters { from < length characters.old }
-    requires from_integers { from < length integers.old }
-    requires booleans { to + r * s ≤ length booleans.old }
-    requires characters { to + r * s ≤ length characters.old }
-    requires integers { to + r * s ≤ length integers.old }
-    ensures { Chosen (first_outside2 r s (slice_index_or integers.old row (pos 0) ∷ []) (slice_index_or integers.old column (pos 0) ∷ [])) (tables booleans.old characters.old integers.old) (changed kind (tables booleans.old characters.old integers.old) to (λ k T. slice_set (cells T to (r * s)) (place_of (slice_index_or integers.old row (pos 0)) * s + place_of (slice_index_or integers.old column (pos 0))) (slice_index_or T from (null_of k)))) result (tables booleans.new characters.new integers.new) }
+    requires row { row < length tables.old.integers.now }
+    requires column { column < length tables.old.integers.now }
+    requires from { Reach (from + 1) (held tables.old) }
+    requires within { Reach (to + r * s) (held tables.old) }
+    ensures value { Chosen (first_outside2 r s (slice_index_or tables.old.integers.now row (pos 0) ∷ []) (slice_index_or tables.old.integers.now column (pos 0) ∷ [])) (held tables.old) (changed kind (held tables.old) to (λ k T. slice_set (cells T to (r * s)) (place_of (slice_index_or tables.old.integers.now row (pos 0)) * s + place_of (slice_index_or tables.old.integers.now column (pos 0))) (slice_index_or T from (null_of k)))) result (held tables.new) }
+    ensures lent { Kept tables.old tables.new }
 {
-    let (i, j) = (integers[row], integers[column]);
-    store_matrix(kind, to, r, s, i, j, from, booleans, characters, integers)
+    let (i, j) = (tables.integers[row], tables.integers[column]);
+    tables.store_matrix(kind, to, r, s, i, j, from)
 }
 
 /// The layout of the matrix x, where the scalar w may be stored at row y and column z of it.
@@ -157,17 +150,16 @@ pub fn store_two_row(
     c: u16,
     d: u16,
     slips: &[Slip],
-    booleans: &mut [bool],
-    characters: &mut [i8],
-    integers: &mut [i32],
+    tables: &mut Tables,
 ) -> Result<Layout, Fault>
     requires row { b < place.row }
     requires column { c < place.row }
     requires value { d < place.row }
     requires before { v < place.row }
-    requires ample { Ample place (length booleans.old) (length characters.old) (length integers.old) }
-    ensures filled { Filled place v (with (value_in place.width slips.now (tables booleans.old characters.old integers.old) v) (λ x. by3 place.width (value_in place.width slips.now (tables booleans.old characters.old integers.old)) b c d (stored_at_two x))) (tables booleans.old characters.old integers.old) result (tables booleans.new characters.new integers.new) }
+    requires ample { Holds place tables.old }
+    ensures filled { Filled place v (with (value_in place.width slips.now (held tables.old) v) (λ x. by3 place.width (value_in place.width slips.now (held tables.old)) b c d (stored_at_two x))) (held tables.old) result (held tables.new) }
     ensures within { IfOk result (λ f. within place.width f.r f.s ≡ true) }
+    ensures lent { Kept tables.old tables.new }
 {
     let x = place.operand(slips, v)?;
     let y = place.operand(slips, b)?;
@@ -178,8 +170,6 @@ pub fn store_two_row(
     let row = place.start_of(b);
     let column = place.start_of(c);
     let from = place.start_of(d);
-    let stored = store_at_cells(
-        form.kind, to, form.r, form.s, row, column, from, booleans, characters, integers,
-    );
+    let stored = store_at_cells(form.kind, to, form.r, form.s, row, column, from, tables);
     indexed(place, form, stored)
 }

@@ -1,8 +1,9 @@
 //! Rows with an operator, by the operator.
 ghost use Rattle.std.specs.Prelude.{ℕ, ◌+◌, ◌*◌, ◌<◌, ◌≤◌, length};
-ghost use Rattle.meaning.specs.States.{tables, value_in};
-ghost use Rattle.meaning.specs.Works.{Ample, Made};
+ghost use Rattle.meaning.specs.States.{value_in};
+ghost use Rattle.meaning.specs.Works.{Made};
 ghost use Rattle.meaning.specs.Expressions.{by1, by2, prefixed, infixed, measured};
+ghost use Rattle.tables.specs.Lent.{held, Holds, Kept, Reach};
 
 use arithmetic::operators::Prefix;
 use expressions::builds::join_row;
@@ -16,6 +17,7 @@ use instruction::{Infix, Measure};
 use meaning::{Layout, Place, Slip};
 use selections::equalities::equate_row;
 use selections::stepping::step_row;
+use tables::Tables;
 
 /// A row with an operator before one value.
 pub fn prefix_row(
@@ -23,17 +25,16 @@ pub fn prefix_row(
     op: Prefix,
     a: u16,
     slips: &[Slip],
-    booleans: &mut [bool],
-    characters: &mut [i8],
-    integers: &mut [i32],
+    tables: &mut Tables,
 ) -> Result<Layout, Fault>
     requires before { a < place.row }
-    requires ample { Ample place (length booleans.old) (length characters.old) (length integers.old) }
-    ensures { Made place (by1 place.width (value_in place.width slips.now (tables booleans.old characters.old integers.old)) a (prefixed op)) (tables booleans.old characters.old integers.old) result (tables booleans.new characters.new integers.new) }
+    requires ample { Holds place tables.old }
+    ensures value { Made place (by1 place.width (value_in place.width slips.now (held tables.old)) a (prefixed op)) (held tables.old) result (held tables.new) }
+    ensures lent { Kept tables.old tables.new }
 {
     match op {
-        Prefix::Minus => negate_row(place, a, slips, integers),
-        Prefix::Not => not_row(place, a, slips, booleans),
+        Prefix::Minus => negate_row(place, a, slips, tables.integers),
+        Prefix::Not => not_row(place, a, slips, tables.booleans),
     }
 }
 
@@ -44,24 +45,23 @@ pub fn infix_row(
     a: u16,
     b: u16,
     slips: &[Slip],
-    booleans: &mut [bool],
-    characters: &mut [i8],
-    integers: &mut [i32],
+    tables: &mut Tables,
 ) -> Result<Layout, Fault>
     requires wide { 1 < place.width }
     requires left { a < place.row }
     requires right { b < place.row }
-    requires ample { Ample place (length booleans.old) (length characters.old) (length integers.old) }
-    ensures { Made place (by2 place.width (value_in place.width slips.now (tables booleans.old characters.old integers.old)) a b (infixed op)) (tables booleans.old characters.old integers.old) result (tables booleans.new characters.new integers.new) }
+    requires ample { Holds place tables.old }
+    ensures value { Made place (by2 place.width (value_in place.width slips.now (held tables.old)) a b (infixed op)) (held tables.old) result (held tables.new) }
+    ensures lent { Kept tables.old tables.new }
 {
     match op {
-        Infix::Arithmetic(op) => calculate_row(place, op, a, b, slips, integers),
-        Infix::Order(op) => compare_row(place, op, a, b, slips, integers, booleans),
-        Infix::Logic(op) => decide_row(place, op, a, b, slips, booleans),
-        Infix::Equality(op) => equate_row(place, op, a, b, slips, booleans, characters, integers),
-        Infix::Join => join_row(place, a, b, slips, booleans, characters, integers),
-        Infix::Product => multiply_row(place, a, b, slips, integers),
-        Infix::By => step_row(place, a, b, slips, booleans, characters, integers),
+        Infix::Arithmetic(op) => calculate_row(place, op, a, b, slips, tables.integers),
+        Infix::Order(op) => compare_row(place, op, a, b, slips, tables.integers, tables.booleans),
+        Infix::Logic(op) => decide_row(place, op, a, b, slips, tables.booleans),
+        Infix::Equality(op) => equate_row(place, op, a, b, slips, tables),
+        Infix::Join => join_row(place, a, b, slips, tables),
+        Infix::Product => multiply_row(place, a, b, slips, tables.integers),
+        Infix::By => step_row(place, a, b, slips, tables),
     }
 }
 
@@ -71,19 +71,18 @@ pub fn measure_row(
     asked: Measure,
     a: u16,
     slips: &[Slip],
-    booleans: &mut [bool],
-    characters: &mut [i8],
-    integers: &mut [i32],
+    tables: &mut Tables,
 ) -> Result<Layout, Fault>
     requires before { a < place.row }
-    requires ample { Ample place (length booleans.old) (length characters.old) (length integers.old) }
-    ensures { Made place (by1 place.width (value_in place.width slips.now (tables booleans.old characters.old integers.old)) a (measured asked)) (tables booleans.old characters.old integers.old) result (tables booleans.new characters.new integers.new) }
+    requires ample { Holds place tables.old }
+    ensures value { Made place (by1 place.width (value_in place.width slips.now (held tables.old)) a (measured asked)) (held tables.old) result (held tables.new) }
+    ensures lent { Kept tables.old tables.new }
 {
     match asked {
-        Measure::Length => length_row(place, a, slips, integers),
-        Measure::Rows => rows_row(place, a, slips, integers),
-        Measure::Columns => columns_row(place, a, slips, integers),
-        Measure::Reverse => reverse_row(place, a, slips, booleans, characters, integers),
-        Measure::Single => single_row(place, a, slips, booleans, characters, integers),
+        Measure::Length => length_row(place, a, slips, tables.integers),
+        Measure::Rows => rows_row(place, a, slips, tables.integers),
+        Measure::Columns => columns_row(place, a, slips, tables.integers),
+        Measure::Reverse => reverse_row(place, a, slips, tables),
+        Measure::Single => single_row(place, a, slips, tables),
     }
 }

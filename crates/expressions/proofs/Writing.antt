@@ -15,7 +15,10 @@ use Rattle.meaning.specs.declared.places.Place.{Place}
 use Rattle.meaning.specs.Values.{Cell}
 use Rattle.meaning.specs.Plans.{Plan, outcome}
 use Rattle.meaning.specs.States.{Tables, table_of, with_table, Elsewhere, FreeAt}
-use Rattle.meaning.specs.Works.{guarded, Made, Ample, changed}
+use Rattle.meaning.specs.Works.{guarded, Made, changed}
+use Rattle.tables.specs.declared.lent.Tables.{Tables as Lent}
+use Rattle.tables.specs.Lent.{held, Holds, Reach}
+use Rattle.tables.proofs.Reaching.{reach}
 use Rattle.meaning.proofs.Rows.{under_all}
 use Rattle.meaning.proofs.Shells.{exits, left_value, left_element, free_elsewhere}
 
@@ -72,16 +75,11 @@ module _ (p : Place) (t u : Tables) (q : Plan) (x : Layout) (h : Ok x ≡ guarde
       (w ∙ (λ i. changed (same i) t (e i) f))
 
 -- ---- the cells of an operand, and of the row
-pub record Room (p : Place) (bs cs is at to n : ℕ) : Type 0 where
+pub record Room (t : Lent) (at to n : ℕ) : Type 0 where
   pub below : at + n ≤ to
-  pub booleans : to + n ≤ bs
-  pub characters : to + n ≤ cs
-  pub integers : to + n ≤ is
+  pub within : Reach (to + n) (held t)
 
-pub room : (p : Place) (bs cs is a at to n : ℕ) → Ample p bs cs is → a < p.row → at ≡ a * p.width → to ≡ p.row * p.width → n ≤ p.width → Room p bs cs is at to n
-room p bs cs is a at to n m lt ea et few =
+pub room : (p : Place) (t : Lent) (a at to n : ℕ) → Holds p t → a < p.row → at ≡ a * p.width → to ≡ p.row * p.width → n ≤ p.width → Room t at to n
+room p t a at to n m lt ea et few =
     let u = under_all p.width a p.row lt in
-    let b = m.booleans in
-    let c = m.characters in
-    let i = m.integers in
-    record { below = omega arith; booleans = omega arith; characters = omega arith; integers = omega arith }
+    record { below = omega arith; within = reach t m (omega arith) }

@@ -1,7 +1,7 @@
 //! Rows that build a value of others: joined, stacked, resized, cast.
 ghost use Rattle.std.specs.Prelude.{◌≡◌, ℕ, ◌+◌, ◌*◌, ◌<◌, ◌≤◌, max, true, ◌&&◌, ◌||◌, length, IfOk, None};
-ghost use Rattle.meaning.specs.States.{tables, value_in};
-ghost use Rattle.meaning.specs.Works.{Ample, Made};
+ghost use Rattle.meaning.specs.States.{value_in};
+ghost use Rattle.meaning.specs.Works.{Made};
 ghost use Rattle.types.specs.declared.kinds.Shape.TheVariants.{Vector, Matrix};
 ghost use Rattle.types.specs.Types.{is_known, exactly as exact_size};
 ghost use Rattle.types.specs.Typings.{is, of, flat};
@@ -9,11 +9,11 @@ ghost use Rattle.rules.specs.Rules.{joins};
 ghost use Rattle.meaning.specs.Expressions.{by1, by2, joined, stack as stacked, size_or, resized_to, cast_to};
 ghost use Rattle.meaning.specs.Values.{known, layout_of, vector_of, within};
 ghost use Rattle.meaning.specs.Works.{guards};
+ghost use Rattle.tables.specs.Lent.{held, Holds, Kept, Reach};
 
 use fault::Fault;
 use meaning::{Layout, Place, Slip};
-use tables::casts::cast;
-use tables::moves::{join, resize_matrix, stack};
+use tables::Tables;
 use types::{Kind, Shape, Size};
 
 fn is_row(x: Layout) -> bool
@@ -38,14 +38,13 @@ pub fn join_row(
     a: u16,
     b: u16,
     slips: &[Slip],
-    booleans: &mut [bool],
-    characters: &mut [i8],
-    integers: &mut [i32],
+    tables: &mut Tables,
 ) -> Result<Layout, Fault>
     requires left { a < place.row }
     requires right { b < place.row }
-    requires ample { Ample place (length booleans.old) (length characters.old) (length integers.old) }
-    ensures { Made place (by2 place.width (value_in place.width slips.now (tables booleans.old characters.old integers.old)) a b joined) (tables booleans.old characters.old integers.old) result (tables booleans.new characters.new integers.new) }
+    requires ample { Holds place tables.old }
+    ensures value { Made place (by2 place.width (value_in place.width slips.now (held tables.old)) a b joined) (held tables.old) result (held tables.new) }
+    ensures lent { Kept tables.old tables.new }
 {
     let x = place.operand(slips, a)?;
     let y = place.operand(slips, b)?;
@@ -53,9 +52,7 @@ pub fn join_row(
     let left = place.start_of(a);
     let right = place.start_of(b);
     let to = place.start_of(place.row);
-    join(
-        x.kind, left, x.s, right, y.s, to, booleans, characters, integers,
-    );
+    tables.join(x.kind, left, x.s, right, y.s, to);
     Ok(form)
 }
 
@@ -83,14 +80,13 @@ pub fn stack_row(
     a: u16,
     b: u16,
     slips: &[Slip],
-    booleans: &mut [bool],
-    characters: &mut [i8],
-    integers: &mut [i32],
+    tables: &mut Tables,
 ) -> Result<Layout, Fault>
     requires left { a < place.row }
     requires right { b < place.row }
-    requires ample { Ample place (length booleans.old) (length characters.old) (length integers.old) }
-    ensures { Made place (by2 place.width (value_in place.width slips.now (tables booleans.old characters.old integers.old)) a b stacked) (tables booleans.old characters.old integers.old) result (tables booleans.new characters.new integers.new) }
+    requires ample { Holds place tables.old }
+    ensures value { Made place (by2 place.width (value_in place.width slips.now (held tables.old)) a b stacked) (held tables.old) result (held tables.new) }
+    ensures lent { Kept tables.old tables.new }
 {
     let x = place.operand(slips, a)?;
     let y = place.operand(slips, b)?;
@@ -98,9 +94,7 @@ pub fn stack_row(
     let upper = place.start_of(a);
     let lower = place.start_of(b);
     let to = place.start_of(place.row);
-    stack(
-        x.kind, upper, x.r, x.s, lower, y.s, to, booleans, characters, integers,
-    );
+    tables.stack(x.kind, upper, x.r, x.s, lower, y.s, to);
     Ok(form)
 }
 
@@ -138,21 +132,18 @@ pub fn resize_row(
     r: Size,
     s: Size,
     slips: &[Slip],
-    booleans: &mut [bool],
-    characters: &mut [i8],
-    integers: &mut [i32],
+    tables: &mut Tables,
 ) -> Result<Layout, Fault>
     requires before { a < place.row }
-    requires ample { Ample place (length booleans.old) (length characters.old) (length integers.old) }
-    ensures { Made place (by1 place.width (value_in place.width slips.now (tables booleans.old characters.old integers.old)) a (resized_to r s)) (tables booleans.old characters.old integers.old) result (tables booleans.new characters.new integers.new) }
+    requires ample { Holds place tables.old }
+    ensures value { Made place (by1 place.width (value_in place.width slips.now (held tables.old)) a (resized_to r s)) (held tables.old) result (held tables.new) }
+    ensures lent { Kept tables.old tables.new }
 {
     let x = place.operand(slips, a)?;
     let form = guard_resize(place, r, s, x)?;
     let at = place.start_of(a);
     let to = place.start_of(place.row);
-    resize_matrix(
-        x.kind, at, x.r, x.s, to, form.r, form.s, booleans, characters, integers,
-    );
+    tables.resize_matrix(x.kind, at, x.r, x.s, to, form.r, form.s);
     Ok(form)
 }
 
@@ -169,27 +160,17 @@ pub fn cast_row(
     kind: Kind,
     a: u16,
     slips: &[Slip],
-    booleans: &mut [bool],
-    characters: &mut [i8],
-    integers: &mut [i32],
+    tables: &mut Tables,
 ) -> Result<Layout, Fault>
     requires before { a < place.row }
-    requires ample { Ample place (length booleans.old) (length characters.old) (length integers.old) }
-    ensures { Made place (by1 place.width (value_in place.width slips.now (tables booleans.old characters.old integers.old)) a (cast_to kind)) (tables booleans.old characters.old integers.old) result (tables booleans.new characters.new integers.new) }
+    requires ample { Holds place tables.old }
+    ensures value { Made place (by1 place.width (value_in place.width slips.now (held tables.old)) a (cast_to kind)) (held tables.old) result (held tables.new) }
+    ensures lent { Kept tables.old tables.new }
 {
     let x = place.operand(slips, a)?;
     let form = guard_cast(place, kind, x)?;
     let at = place.start_of(a);
     let to = place.start_of(place.row);
-    cast(
-        x.kind,
-        kind,
-        at,
-        to,
-        x.area(place.width),
-        booleans,
-        characters,
-        integers,
-    );
+    tables.cast(x.kind, kind, at, to, x.area(place.width));
     Ok(form)
 }

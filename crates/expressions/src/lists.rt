@@ -4,18 +4,19 @@ ghost use Rattle.expressions.specs.Lists.{list_at, orderly};
 
 use meaning::{Layout, Place};
 use picks::Index;
+use tables::Tables;
 use types::Shape;
 
 /// The list that the value of layout x at row a stands for.
-pub fn list_at(place: Place, a: u16, x: Layout, integers: &[i32]) -> Index
-    requires { a * place.width + 1 < length integers.now }
-    ensures { result ≡ list_at place.width integers.now a x }
+pub fn list_at(place: Place, a: u16, x: Layout, tables: &Tables) -> Index
+    requires { a * place.width + 1 < length tables.now.integers.now }
+    ensures { result ≡ list_at place.width tables.now.integers.now a x }
 {
     let at = place.start_of(a);
     if Shape::Interval.same(x.shape) {
         Index::Interval {
-            low: integers[at],
-            high: integers[at + 1],
+            low: tables.integers[at],
+            high: tables.integers[at + 1],
         }
     } else {
         Index::Cells { at, count: x.s }

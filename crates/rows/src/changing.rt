@@ -1,9 +1,9 @@
 //! Rows that change a variable, print, read or return.
 ghost use Rattle.std.specs.Prelude.{◌≡◌, ◌<◌, ◌≤◌, length};
 ghost use Rattle.meaning.specs.Acts.{step};
-ghost use Rattle.meaning.specs.Works.{Ample};
 ghost use Rattle.statements.specs.Frames.{state_of};
 ghost use Rattle.rows.specs.Changing.{Reaches, changing};
+ghost use Rattle.tables.specs.Lent.{held, Holds, Kept, Reach};
 
 use crate::variables::{assign, declare, store, store_two};
 use fault::Fault;
@@ -12,6 +12,7 @@ use meaning::{After, Place, Slip};
 use source::{Source, StreamState};
 use statements::returns::return_row;
 use statements::streams::{print_row, read_row};
+use tables::Tables;
 use types::Typing;
 
 /// A row that changes a variable, prints, reads or returns a value of the head's type.
@@ -20,9 +21,7 @@ pub fn change_row<S: Source>(
     head: Typing,
     change: Change,
     slips: &mut [Slip],
-    booleans: &mut [bool],
-    characters: &mut [i8],
-    integers: &mut [i32],
+    tables: &mut Tables,
     source: &mut S,
     taken: &mut u32,
     stream: &mut StreamState,
@@ -33,28 +32,21 @@ pub fn change_row<S: Source>(
     requires width { place.width ≤ 1024 }
     requires row { place.row < length slips.old }
     requires room { printed.old ≤ length output.old }
-    requires ample { Ample place (length booleans.old) (length characters.old) (length integers.old) }
-    ensures does { step result (state_of taken.new stream.new slips.new booleans.new characters.new integers.new (S.waiting source.new) output.new printed.new) ≡ changing place head change (state_of taken.old stream.old slips.old booleans.old characters.old integers.old (S.waiting source.old) output.old printed.old) }
+    requires ample { Holds place tables.old }
+    ensures does { step result (state_of taken.new stream.new slips.new tables.new.booleans.now tables.new.characters.now tables.new.integers.now (S.waiting source.new) output.new printed.new) ≡ changing place head change (state_of taken.old stream.old slips.old tables.old.booleans.now tables.old.characters.now tables.old.integers.now (S.waiting source.old) output.old printed.old) }
     ensures room { printed.new ≤ length output.new }
+    ensures lent { Kept tables.old tables.new }
 {
     match change {
         Change::Declare(kind, shape, r, s, start) => {
             let written = Typing { kind, shape, r, s };
-            declare(place, written, start, slips, booleans, characters, integers)
+            declare(place, written, start, slips, tables)
         }
-        Change::Assign(v, a) => assign(place, v, a, slips, booleans, characters, integers),
-        Change::Store(v, b, c) => store(place, v, b, c, slips, booleans, characters, integers),
-        Change::StoreTwo(v, b, c, d) => {
-            store_two(place, v, b, c, d, slips, booleans, characters, integers)
-        }
-        Change::Print(a) => {
-            print_row(
-                place, a, slips, booleans, characters, integers, output, printed,
-            )
-        }
-        Change::Read(v) => read_row(
-            place, v, slips, booleans, characters, integers, source, taken, stream,
-        ),
+        Change::Assign(v, a) => assign(place, v, a, slips, tables),
+        Change::Store(v, b, c) => store(place, v, b, c, slips, tables),
+        Change::StoreTwo(v, b, c, d) => { store_two(place, v, b, c, d, slips, tables) }
+        Change::Print(a) => { print_row(place, a, slips, tables, output, printed) }
+        Change::Read(v) => read_row(place, v, slips, tables, source, taken, stream),
         Change::Return(a) => return_row(place, head, a, slips),
     }
 }

@@ -2,11 +2,12 @@
 ghost use Rattle.std.specs.Prelude.{◌≡◌, ◌<◌, true, length, IfOk};
 ghost use Rattle.types.specs.declared.typing.Typing.{Typing};
 ghost use Rattle.instruction.specs.declared.instructions.Change.TheVariants.{Assign, Store, StoreTwo};
-ghost use Rattle.meaning.specs.States.{tables, value_in};
+ghost use Rattle.meaning.specs.States.{value_in};
 ghost use Rattle.meaning.specs.Values.{within};
-ghost use Rattle.meaning.specs.Works.{Ample, Filled};
+ghost use Rattle.meaning.specs.Works.{Filled};
 ghost use Rattle.statements.specs.Frames.{InTables, settled};
 ghost use Rattle.rows.specs.Changing.{StartsAfter, start_outcome, beginning, changing, begun};
+ghost use Rattle.tables.specs.Lent.{held, Holds, Kept, Reach};
 
 use changes::assigns::assign_row;
 use changes::declares::{declare_nulls, declare_row};
@@ -14,6 +15,7 @@ use changes::stores::{store_row, store_two_row};
 use fault::Fault;
 use instruction::Start;
 use meaning::{After, Layout, Place, Slip};
+use tables::Tables;
 use types::Typing as Type;
 
 /// The row after a statement is next, unless the statement faulted.
@@ -44,18 +46,17 @@ fn begin(
     w: Type,
     start: Start,
     slips: &[Slip],
-    booleans: &mut [bool],
-    characters: &mut [i8],
-    integers: &mut [i32],
+    tables: &mut Tables,
 ) -> Result<Layout, Fault>
     requires before { StartsAfter place.row start }
-    requires ample { Ample place (length booleans.old) (length characters.old) (length integers.old) }
-    ensures filled { Filled place place.row (start_outcome place.width (value_in place.width slips.now (tables booleans.old characters.old integers.old)) w start) (tables booleans.old characters.old integers.old) result (tables booleans.new characters.new integers.new) }
+    requires ample { Holds place tables.old }
+    ensures filled { Filled place place.row (start_outcome place.width (value_in place.width slips.now (held tables.old)) w start) (held tables.old) result (held tables.new) }
     ensures within { IfOk result (λ f. within place.width f.r f.s ≡ true) }
+    ensures lent { Kept tables.old tables.new }
 {
     match start {
-        Start::Nulls => declare_nulls(place, w, booleans, characters, integers),
-        Start::Value(a) => declare_row(place, w, a, slips, booleans, characters, integers),
+        Start::Nulls => declare_nulls(place, w, tables),
+        Start::Value(a) => declare_row(place, w, a, slips, tables),
     }
 }
 
@@ -65,16 +66,15 @@ pub fn declare(
     w: Type,
     start: Start,
     slips: &mut [Slip],
-    booleans: &mut [bool],
-    characters: &mut [i8],
-    integers: &mut [i32],
+    tables: &mut Tables,
 ) -> Result<After, Fault>
     requires before { StartsAfter place.row start }
     requires row { place.row < length slips.old }
-    requires ample { Ample place (length booleans.old) (length characters.old) (length integers.old) }
-    ensures { InTables (beginning place w start) slips.old (tables booleans.old characters.old integers.old) result slips.new (tables booleans.new characters.new integers.new) }
+    requires ample { Holds place tables.old }
+    ensures value { InTables (beginning place w start) slips.old (held tables.old) result slips.new (held tables.new) }
+    ensures lent { Kept tables.old tables.new }
 {
-    let declared = begin(place, w, start, slips, booleans, characters, integers);
+    let declared = begin(place, w, start, slips, tables);
     note(place, declared, slips);
     proceed(place, declared)
 }
@@ -85,16 +85,15 @@ pub fn assign(
     v: u16,
     a: u16,
     slips: &[Slip],
-    booleans: &mut [bool],
-    characters: &mut [i8],
-    integers: &mut [i32],
+    tables: &mut Tables,
 ) -> Result<After, Fault>
     requires before { a < place.row }
     requires under { v < a }
-    requires ample { Ample place (length booleans.old) (length characters.old) (length integers.old) }
-    ensures { (head : Typing) → InTables (changing place head (Assign v a)) slips.now (tables booleans.old characters.old integers.old) result slips.now (tables booleans.new characters.new integers.new) }
+    requires ample { Holds place tables.old }
+    ensures value { (head : Typing) → InTables (changing place head (Assign v a)) slips.now (held tables.old) result slips.now (held tables.new) }
+    ensures lent { Kept tables.old tables.new }
 {
-    let assigned = assign_row(place, v, a, slips, booleans, characters, integers);
+    let assigned = assign_row(place, v, a, slips, tables);
     proceed(place, assigned)
 }
 
@@ -105,18 +104,17 @@ pub fn store(
     b: u16,
     c: u16,
     slips: &[Slip],
-    booleans: &mut [bool],
-    characters: &mut [i8],
-    integers: &mut [i32],
+    tables: &mut Tables,
 ) -> Result<After, Fault>
     requires index { b < place.row }
     requires value { c < place.row }
     requires under_index { v < b }
     requires under_value { v < c }
-    requires ample { Ample place (length booleans.old) (length characters.old) (length integers.old) }
-    ensures { (head : Typing) → InTables (changing place head (Store v b c)) slips.now (tables booleans.old characters.old integers.old) result slips.now (tables booleans.new characters.new integers.new) }
+    requires ample { Holds place tables.old }
+    ensures value { (head : Typing) → InTables (changing place head (Store v b c)) slips.now (held tables.old) result slips.now (held tables.new) }
+    ensures lent { Kept tables.old tables.new }
 {
-    let stored = store_row(place, v, b, c, slips, booleans, characters, integers);
+    let stored = store_row(place, v, b, c, slips, tables);
     proceed(place, stored)
 }
 
@@ -128,17 +126,16 @@ pub fn store_two(
     c: u16,
     d: u16,
     slips: &[Slip],
-    booleans: &mut [bool],
-    characters: &mut [i8],
-    integers: &mut [i32],
+    tables: &mut Tables,
 ) -> Result<After, Fault>
     requires row { b < place.row }
     requires column { c < place.row }
     requires value { d < place.row }
     requires before { v < place.row }
-    requires ample { Ample place (length booleans.old) (length characters.old) (length integers.old) }
-    ensures { (head : Typing) → InTables (changing place head (StoreTwo v b c d)) slips.now (tables booleans.old characters.old integers.old) result slips.now (tables booleans.new characters.new integers.new) }
+    requires ample { Holds place tables.old }
+    ensures value { (head : Typing) → InTables (changing place head (StoreTwo v b c d)) slips.now (held tables.old) result slips.now (held tables.new) }
+    ensures lent { Kept tables.old tables.new }
 {
-    let stored = store_two_row(place, v, b, c, d, slips, booleans, characters, integers);
+    let stored = store_two_row(place, v, b, c, d, slips, tables);
     proceed(place, stored)
 }

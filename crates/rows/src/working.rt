@@ -3,11 +3,10 @@ ghost use Rattle.std.specs.Prelude.{◌≡◌, ◌<◌, ◌≤◌, length};
 ghost use Rattle.checker.specs.Blocks.{at};
 ghost use Rattle.checker.specs.Structure.{Structured};
 ghost use Rattle.meaning.specs.Acts.{Acts};
-ghost use Rattle.meaning.specs.Works.{Ample};
-ghost use Rattle.meaning.specs.States.{tables};
 ghost use Rattle.laws.specs.Reads.{make_reads, AllUnder};
 ghost use Rattle.statements.specs.Frames.{state_of};
 ghost use Rattle.rows.specs.Working.{Expresses};
+ghost use Rattle.tables.specs.Lent.{held, Holds, Kept, Reach};
 
 use crate::changing::change_row;
 use checker::Line;
@@ -18,6 +17,7 @@ use meaning::{After, Place, Slip};
 use source::{Source, StreamState};
 use statements::control::control_row;
 use statements::settle::settle;
+use tables::Tables;
 use types::Typing;
 
 /// What check passed at a row.
@@ -34,19 +34,16 @@ fn express(
     expression: Expression,
     stream: StreamState,
     slips: &mut [Slip],
-    booleans: &mut [bool],
-    characters: &mut [i8],
-    integers: &mut [i32],
+    tables: &mut Tables,
 ) -> Result<After, Fault>
     requires wide { 1 < place.width }
     requires reads { AllUnder place.row (make_reads expression) }
     requires row { place.row < length slips.old }
-    requires ample { Ample place (length booleans.old) (length characters.old) (length integers.old) }
-    ensures { Expresses place expression stream slips.old (tables booleans.old characters.old integers.old) result slips.new (tables booleans.new characters.new integers.new) }
+    requires ample { Holds place tables.old }
+    ensures value { Expresses place expression stream slips.old (held tables.old) result slips.new (held tables.new) }
+    ensures lent { Kept tables.old tables.new }
 {
-    let made = evaluate(
-        place, expression, stream, slips, booleans, characters, integers,
-    );
+    let made = evaluate(place, expression, stream, slips, tables);
     settle(place, made, slips)
 }
 
@@ -56,9 +53,7 @@ pub fn work<S: Source>(
     lines: &[Line],
     head: Typing,
     slips: &mut [Slip],
-    booleans: &mut [bool],
-    characters: &mut [i8],
-    integers: &mut [i32],
+    tables: &mut Tables,
     source: &mut S,
     taken: &mut u32,
     stream: &mut StreamState,
@@ -71,18 +66,16 @@ pub fn work<S: Source>(
     requires width { place.width ≤ 1024 }
     requires row { place.row < length slips.old }
     requires room { printed.old ≤ length output.old }
-    requires ample { Ample place (length booleans.old) (length characters.old) (length integers.old) }
-    ensures acts { Acts place.width place.row place.line (state_of taken.old stream.old slips.old booleans.old characters.old integers.old (S.waiting source.old) output.old printed.old) head lines.now (at lines.now place.row).target (at lines.now place.row).instruction result (state_of taken.new stream.new slips.new booleans.new characters.new integers.new (S.waiting source.new) output.new printed.new) }
+    requires ample { Holds place tables.old }
+    ensures acts { Acts place.width place.row place.line (state_of taken.old stream.old slips.old tables.old.booleans.now tables.old.characters.now tables.old.integers.now (S.waiting source.old) output.old printed.old) head lines.now (at lines.now place.row).target (at lines.now place.row).instruction result (state_of taken.new stream.new slips.new tables.new.booleans.now tables.new.characters.now tables.new.integers.now (S.waiting source.new) output.new printed.new) }
     ensures room { printed.new ≤ length output.new }
+    ensures lent { Kept tables.old tables.new }
 {
     let line = line_of(lines, place.row);
     match line.instruction {
-        Instruction::Expression(expression) => express(
-            place, expression, *stream, slips, booleans, characters, integers,
-        ),
+        Instruction::Expression(expression) => express(place, expression, *stream, slips, tables),
         Instruction::Change(change) => change_row(
-            place, head, change, slips, booleans, characters, integers, source, taken, stream,
-            output, printed,
+            place, head, change, slips, tables, source, taken, stream, output, printed,
         ),
         Instruction::Control(control) => control_row(
             place,
@@ -90,9 +83,7 @@ pub fn work<S: Source>(
             control,
             line.target,
             slips,
-            booleans,
-            characters,
-            integers,
+            tables,
         ),
     }
 }

@@ -1,17 +1,18 @@
 //! Rows that pick elements of a matrix.
 ghost use Rattle.std.specs.Prelude.{◌≡◌, ℕ, ◌+◌, ◌*◌, ◌<◌, ◌≤◌, true, length, IfOk};
 ghost use Rattle.meaning.specs.Expressions.{by3, cross_shape, pick_two};
-ghost use Rattle.meaning.specs.States.{tables, value_in};
+ghost use Rattle.meaning.specs.States.{value_in};
 ghost use Rattle.meaning.specs.Values.{within};
-ghost use Rattle.meaning.specs.Works.{Ample, Made};
+ghost use Rattle.meaning.specs.Works.{Made};
 ghost use Rattle.selections.specs.Choices.{cross_guard, cross_layout};
+ghost use Rattle.tables.specs.Lent.{held, Holds, Kept, Reach};
 
 use crate::answers::answer;
 use expressions::lists::{is_orderly, list_at};
 use fault::Fault;
 use meaning::{Layout, Place, Slip};
 use picks::Index;
-use tables::indices::pick_matrix;
+use tables::Tables;
 use types::{Kind, Shape};
 
 /// The shape of what is picked: an index that is a scalar, of a row or of a column, drops a dimension.
@@ -77,27 +78,24 @@ pub fn pick_two_row(
     b: u16,
     c: u16,
     slips: &[Slip],
-    booleans: &mut [bool],
-    characters: &mut [i8],
-    integers: &mut [i32],
+    tables: &mut Tables,
 ) -> Result<Layout, Fault>
     requires wide { 1 < place.width }
     requires whole { a < place.row }
     requires row { b < place.row }
     requires column { c < place.row }
-    requires ample { Ample place (length booleans.old) (length characters.old) (length integers.old) }
-    ensures { Made place (by3 place.width (value_in place.width slips.now (tables booleans.old characters.old integers.old)) a b c pick_two) (tables booleans.old characters.old integers.old) result (tables booleans.new characters.new integers.new) }
+    requires ample { Holds place tables.old }
+    ensures value { Made place (by3 place.width (value_in place.width slips.now (held tables.old)) a b c pick_two) (held tables.old) result (held tables.new) }
+    ensures lent { Kept tables.old tables.new }
 {
     let x = place.operand(slips, a)?;
     let y = place.operand(slips, b)?;
     let z = place.operand(slips, c)?;
-    let rows = list_at(place, b, y, integers);
-    let columns = list_at(place, c, z, integers);
+    let rows = list_at(place, b, y, tables);
+    let columns = list_at(place, c, z, tables);
     let form = guard_cross(place, x, y, z, rows, columns)?;
     let from = place.start_of(a);
     let to = place.start_of(place.row);
-    let picked = pick_matrix(
-        x.kind, from, x.r, x.s, rows, columns, to, booleans, characters, integers,
-    );
+    let picked = tables.pick_matrix(x.kind, from, x.r, x.s, rows, columns, to);
     answer(place, form, picked)
 }

@@ -2,15 +2,16 @@
 ghost use Rattle.std.specs.Prelude.{◌≡◌, ℕ, ◌+◌, ◌*◌, ◌<◌, ◌≤◌, true, [], ◌∷◌, length};
 ghost use Rattle.element.specs.Cells.{put};
 ghost use Rattle.meaning.specs.Expressions.{by2, equated, says as says_of};
-ghost use Rattle.meaning.specs.States.{tables, value_in};
+ghost use Rattle.meaning.specs.States.{value_in};
 ghost use Rattle.meaning.specs.Values.{lawful};
-ghost use Rattle.meaning.specs.Works.{Ample, Made};
+ghost use Rattle.meaning.specs.Works.{Made};
 ghost use Rattle.selections.specs.Equalities.{equates, equate_guard, same_at};
+ghost use Rattle.tables.specs.Lent.{held, Holds, Kept, Reach};
 
 use fault::Fault;
 use instruction::Equality;
 use meaning::{Layout, Place, Slip};
-use tables::equality::{equal, equal_throughout};
+use tables::Tables;
 use types::{Kind, Shape};
 
 /// Whether values of these layouts may be compared: of one kind, element by element, or two intervals.
@@ -34,41 +35,24 @@ fn guard_equate(place: Place, x: Layout, y: Layout) -> Result<Layout, Fault>
 }
 
 /// Whether the values of layouts x at row a and y at row b have the same elements, a scalar spread over the other.
-fn are_equal(
-    place: Place,
-    a: u16,
-    b: u16,
-    x: Layout,
-    y: Layout,
-    booleans: &[bool],
-    characters: &[i8],
-    integers: &[i32],
-) -> bool
+fn are_equal(place: Place, a: u16, b: u16, x: Layout, y: Layout, tables: &Tables) -> bool
     requires wide { 1 < place.width }
     requires left { a < place.row }
     requires right { b < place.row }
     requires left_lawful { lawful place.width x ≡ true }
     requires right_lawful { lawful place.width y ≡ true }
-    requires ample { Ample place (length booleans.now) (length characters.now) (length integers.now) }
-    ensures { result ≡ same_at (tables booleans.now characters.now integers.now) x y (a * place.width) (b * place.width) }
+    requires ample { Holds place tables.now }
+    ensures { result ≡ same_at (held tables.now) x y (a * place.width) (b * place.width) }
 {
     let left = place.start_of(a);
     let right = place.start_of(b);
     let many = x.area(place.width);
     if Shape::Scalar.same(y.shape) {
-        equal_throughout(x.kind, left, many, right, booleans, characters, integers)
+        tables.equal_throughout(x.kind, left, many, right)
     } else if Shape::Scalar.same(x.shape) {
-        equal_throughout(
-            x.kind,
-            right,
-            y.area(place.width),
-            left,
-            booleans,
-            characters,
-            integers,
-        )
+        tables.equal_throughout(x.kind, right, y.area(place.width), left)
     } else {
-        equal(x.kind, left, right, many, booleans, characters, integers)
+        tables.equal(x.kind, left, right, many)
     }
 }
 
@@ -97,20 +81,19 @@ pub fn equate_row(
     a: u16,
     b: u16,
     slips: &[Slip],
-    booleans: &mut [bool],
-    characters: &mut [i8],
-    integers: &mut [i32],
+    tables: &mut Tables,
 ) -> Result<Layout, Fault>
     requires wide { 1 < place.width }
     requires left { a < place.row }
     requires right { b < place.row }
-    requires ample { Ample place (length booleans.old) (length characters.old) (length integers.old) }
-    ensures { Made place (by2 place.width (value_in place.width slips.now (tables booleans.old characters.old integers.old)) a b (equated op)) (tables booleans.old characters.old integers.old) result (tables booleans.new characters.new integers.new) }
+    requires ample { Holds place tables.old }
+    ensures value { Made place (by2 place.width (value_in place.width slips.now (held tables.old)) a b (equated op)) (held tables.old) result (held tables.new) }
+    ensures lent { Kept tables.old tables.new }
 {
     let x = place.operand(slips, a)?;
     let y = place.operand(slips, b)?;
     let form = guard_equate(place, x, y)?;
-    let same = are_equal(place, a, b, x, y, booleans, characters, integers);
-    write_truth(booleans, says(op, same), place.start_of(place.row));
+    let same = are_equal(place, a, b, x, y, tables);
+    write_truth(tables.booleans, says(op, same), place.start_of(place.row));
     Ok(form)
 }

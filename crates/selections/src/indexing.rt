@@ -1,17 +1,18 @@
 //! Rows that pick elements of a vector.
 ghost use Rattle.std.specs.Prelude.{◌≡◌, ℕ, ◌+◌, ◌*◌, ◌<◌, ◌≤◌, true, length, IfOk};
 ghost use Rattle.meaning.specs.Expressions.{by2, pick as pick_plan};
-ghost use Rattle.meaning.specs.States.{tables, value_in};
+ghost use Rattle.meaning.specs.States.{value_in};
 ghost use Rattle.meaning.specs.Values.{within};
-ghost use Rattle.meaning.specs.Works.{Ample, Made};
+ghost use Rattle.meaning.specs.Works.{Made};
 ghost use Rattle.selections.specs.Choices.{pick_guard, pick_layout};
+ghost use Rattle.tables.specs.Lent.{held, Holds, Kept, Reach};
 
 use crate::answers::answer;
 use expressions::lists::{is_orderly, list_at};
 use fault::Fault;
 use meaning::{Layout, Place, Slip};
 use picks::Index;
-use tables::indices::pick;
+use tables::Tables;
 use types::{Kind, Shape};
 
 /// The layout of what a list of indices picks: an index that is a scalar picks a scalar.
@@ -50,22 +51,21 @@ pub fn pick_row(
     a: u16,
     b: u16,
     slips: &[Slip],
-    booleans: &mut [bool],
-    characters: &mut [i8],
-    integers: &mut [i32],
+    tables: &mut Tables,
 ) -> Result<Layout, Fault>
     requires wide { 1 < place.width }
     requires left { a < place.row }
     requires right { b < place.row }
-    requires ample { Ample place (length booleans.old) (length characters.old) (length integers.old) }
-    ensures { Made place (by2 place.width (value_in place.width slips.now (tables booleans.old characters.old integers.old)) a b pick_plan) (tables booleans.old characters.old integers.old) result (tables booleans.new characters.new integers.new) }
+    requires ample { Holds place tables.old }
+    ensures value { Made place (by2 place.width (value_in place.width slips.now (held tables.old)) a b pick_plan) (held tables.old) result (held tables.new) }
+    ensures lent { Kept tables.old tables.new }
 {
     let x = place.operand(slips, a)?;
     let y = place.operand(slips, b)?;
-    let list = list_at(place, b, y, integers);
+    let list = list_at(place, b, y, tables);
     let form = guard_pick(place, x, y, list)?;
     let from = place.start_of(a);
     let to = place.start_of(place.row);
-    let picked = pick(x.kind, from, x.s, list, to, booleans, characters, integers);
+    let picked = tables.pick(x.kind, from, x.s, list, to);
     answer(place, form, picked)
 }

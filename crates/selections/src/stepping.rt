@@ -3,10 +3,11 @@ ghost use Rattle.std.specs.Prelude.{◌≡◌, ℕ, ◌+◌, ◌*◌, ◌^◌, �
 ghost use Rattle.element.specs.Steps.{step_count};
 ghost use Rattle.picks.specs.Indices.{amount, index_count, IndexBelow};
 ghost use Rattle.meaning.specs.Expressions.{by2, stepped_by};
-ghost use Rattle.meaning.specs.States.{tables, value_in};
+ghost use Rattle.meaning.specs.States.{value_in};
 ghost use Rattle.meaning.specs.Values.{vector_of, within};
-ghost use Rattle.meaning.specs.Works.{Ample, Made};
+ghost use Rattle.meaning.specs.Works.{Made};
 ghost use Rattle.selections.specs.Strides.{strides, step_guard, stepped_in};
+ghost use Rattle.tables.specs.Lent.{held, Holds, Kept, Reach};
 
 use element::steps::step_count;
 use expressions::lists::{is_orderly, list_at};
@@ -15,16 +16,16 @@ use meaning::{Layout, Place, Slip};
 use picks::Index;
 use picks::indices::span;
 use picks::intervals::step_interval;
-use tables::moves::step_by;
+use tables::Tables;
 use types::{Kind, Shape};
 
 /// The step that the cell `at` holds, and 0 for a negative one.
-fn step_at(integers: &[i32], at: usize) -> usize
-    requires { at < length integers.now }
-    ensures is { result ≡ amount (slice_index_or integers.now at (pos 0)) }
+fn step_at(tables: &Tables, at: usize) -> usize
+    requires { at < length tables.now.integers.now }
+    ensures is { result ≡ amount (slice_index_or tables.now.integers.now at (pos 0)) }
     ensures small { result < 2 ^ 32 }
 {
-    let step = integers[at];
+    let step = tables.integers[at];
     if step < 0 { 0 } else { step as usize }
 }
 
@@ -67,30 +68,21 @@ fn guard_step(place: Place, x: Layout, y: Layout, list: Index, step: usize) -> R
 }
 
 /// Writes the first element of a list and every `step`-th after it.
-fn write_steps(
-    kind: Kind,
-    list: Index,
-    step: usize,
-    to: usize,
-    booleans: &mut [bool],
-    characters: &mut [i8],
-    integers: &mut [i32],
-)
+fn write_steps(kind: Kind, list: Index, step: usize, to: usize, tables: &mut Tables)
     requires some { 0 < step }
     requires small { step < 2 ^ 32 }
     requires below { IndexBelow list to }
     requires near { to < 2 ^ 32 }
-    requires booleans { to + step_count (index_count list) step ≤ length booleans.old }
-    requires characters { to + step_count (index_count list) step ≤ length characters.old }
-    requires integers { to + step_count (index_count list) step ≤ length integers.old }
-    ensures { tables booleans.new characters.new integers.new ≡ stepped_in kind (tables booleans.old characters.old integers.old) to list step }
+    requires within { Reach (to + step_count (index_count list) step) (held tables.old) }
+    ensures value { held tables.new ≡ stepped_in kind (held tables.old) to list step }
+    ensures lent { Kept tables.old tables.new }
 {
     match list {
         Index::Cells { at, count } => {
-            step_by(kind, at, count, step, to, booleans, characters, integers);
+            tables.step_by(kind, at, count, step, to);
         }
         Index::Interval { low, high } => {
-            step_interval(integers, low, high, step, to);
+            step_interval(tables.integers, low, high, step, to);
         }
     }
 }
@@ -101,22 +93,21 @@ pub fn step_row(
     a: u16,
     b: u16,
     slips: &[Slip],
-    booleans: &mut [bool],
-    characters: &mut [i8],
-    integers: &mut [i32],
+    tables: &mut Tables,
 ) -> Result<Layout, Fault>
     requires wide { 1 < place.width }
     requires left { a < place.row }
     requires right { b < place.row }
-    requires ample { Ample place (length booleans.old) (length characters.old) (length integers.old) }
-    ensures { Made place (by2 place.width (value_in place.width slips.now (tables booleans.old characters.old integers.old)) a b stepped_by) (tables booleans.old characters.old integers.old) result (tables booleans.new characters.new integers.new) }
+    requires ample { Holds place tables.old }
+    ensures value { Made place (by2 place.width (value_in place.width slips.now (held tables.old)) a b stepped_by) (held tables.old) result (held tables.new) }
+    ensures lent { Kept tables.old tables.new }
 {
     let x = place.operand(slips, a)?;
     let y = place.operand(slips, b)?;
-    let list = list_at(place, a, x, integers);
-    let step = step_at(integers, place.start_of(b));
+    let list = list_at(place, a, x, tables);
+    let step = step_at(tables, place.start_of(b));
     let form = guard_step(place, x, y, list, step)?;
     let to = place.start_of(place.row);
-    write_steps(x.kind, list, step, to, booleans, characters, integers);
+    write_steps(x.kind, list, step, to, tables);
     Ok(form)
 }

@@ -1,16 +1,15 @@
 //! Each rows: one element of the domain at a time.
 ghost use Rattle.std.specs.Prelude.{◌≡◌, ◌+◌, ◌<◌, ◌≤◌, length};
-ghost use Rattle.meaning.specs.States.{tables};
-ghost use Rattle.meaning.specs.Works.{Ample};
 ghost use Rattle.statements.specs.Domains.{ranged, ElementBelow, with_element};
 ghost use Rattle.statements.specs.Frames.{InTables, advancing, repeating};
+ghost use Rattle.tables.specs.Lent.{held, Holds, Kept, Reach};
 
 use expressions::lists::{is_orderly, list_at};
 use fault::{Cause, Fault};
 use meaning::{After, Layout, Place, Slip};
 use picks::Index;
 use picks::indices::nth_between;
-use tables::moves::copy;
+use tables::Tables;
 use types::{Kind, Shape};
 
 /// Whether an each can range over a value of this layout.
@@ -21,24 +20,15 @@ fn is_ranged(x: Layout) -> bool
 }
 
 /// Writes element n of a domain into the cell `to` of the table of its kind.
-fn put_element(
-    kind: Kind,
-    list: Index,
-    n: usize,
-    to: usize,
-    booleans: &mut [bool],
-    characters: &mut [i8],
-    integers: &mut [i32],
-)
+fn put_element(kind: Kind, list: Index, n: usize, to: usize, tables: &mut Tables)
     requires below { ElementBelow list n to }
-    requires booleans { to < length booleans.old }
-    requires characters { to < length characters.old }
-    requires integers { to < length integers.old }
-    ensures { tables booleans.new characters.new integers.new ≡ with_element kind list n to (tables booleans.old characters.old integers.old) }
+    requires within { Reach (to + 1) (held tables.old) }
+    ensures value { held tables.new ≡ with_element kind list n to (held tables.old) }
+    ensures lent { Kept tables.old tables.new }
 {
     match list {
-        Index::Cells { at, .. } => copy(kind, at + n, 1, to, booleans, characters, integers),
-        Index::Interval { low, high } => integers[to] = nth_between(low, high, n),
+        Index::Cells { at, .. } => tables.copy(kind, at + n, 1, to),
+        Index::Interval { low, high } => tables.integers[to] = nth_between(low, high, n),
     }
 }
 
@@ -51,21 +41,20 @@ pub fn advance(
     end: u16,
     n: usize,
     slips: &mut [Slip],
-    booleans: &mut [bool],
-    characters: &mut [i8],
-    integers: &mut [i32],
+    tables: &mut Tables,
 ) -> Result<After, Fault>
     requires domain { a < i }
     requires upto { i ≤ place.row }
     requires slip { i < length slips.old }
-    requires ample { Ample place (length booleans.old) (length characters.old) (length integers.old) }
-    ensures { InTables (advancing place i a end n) slips.old (tables booleans.old characters.old integers.old) result slips.new (tables booleans.new characters.new integers.new) }
+    requires ample { Holds place tables.old }
+    ensures value { InTables (advancing place i a end n) slips.old (held tables.old) result slips.new (held tables.new) }
+    ensures lent { Kept tables.old tables.new }
 {
     let x = place.operand(slips, a)?;
     if !is_ranged(x) {
         return Err(place.fault(Cause::NoRule, 0));
     }
-    let list = list_at(place, a, x, integers);
+    let list = list_at(place, a, x, tables);
     if !is_orderly(list) {
         return Err(place.fault(Cause::Disordered, 0));
     }
@@ -74,7 +63,7 @@ pub fn advance(
         return Ok(After::Row(end as usize + 1));
     }
     let to = place.start_of(i);
-    put_element(x.kind, list, n, to, booleans, characters, integers);
+    put_element(x.kind, list, n, to, tables);
     slips[i as usize] = Slip::new(Layout::scalar(x.kind), n as u32);
     Ok(After::Row(i as usize + 1))
 }
@@ -86,15 +75,14 @@ pub fn resume_each(
     a: u16,
     end: u16,
     slips: &mut [Slip],
-    booleans: &mut [bool],
-    characters: &mut [i8],
-    integers: &mut [i32],
+    tables: &mut Tables,
 ) -> Result<After, Fault>
     requires domain { a < i }
     requires upto { i ≤ place.row }
     requires slip { i < length slips.old }
-    requires ample { Ample place (length booleans.old) (length characters.old) (length integers.old) }
-    ensures { InTables (repeating place i a end) slips.old (tables booleans.old characters.old integers.old) result slips.new (tables booleans.new characters.new integers.new) }
+    requires ample { Holds place tables.old }
+    ensures value { InTables (repeating place i a end) slips.old (held tables.old) result slips.new (held tables.new) }
+    ensures lent { Kept tables.old tables.new }
 {
     let slip = slips[i as usize];
     match slip.kind {
@@ -102,7 +90,7 @@ pub fn resume_each(
         Some(_) => {
             // Wider than a position, so that the one after the greatest does not wrap: no domain has that element.
             let n = slip.position as usize + 1;
-            advance(place, i, a, end, n, slips, booleans, characters, integers)
+            advance(place, i, a, end, n, slips, tables)
         }
     }
 }

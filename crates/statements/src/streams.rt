@@ -1,13 +1,12 @@
 //! Rows that print and read.
 ghost use Rattle.std.specs.Prelude.{◌<◌, ◌≤◌, length};
-ghost use Rattle.meaning.specs.States.{tables};
-ghost use Rattle.meaning.specs.Works.{Ample};
 ghost use Rattle.statements.specs.Frames.{InOutput, FromSource, outputting, inputting};
+ghost use Rattle.tables.specs.Lent.{held, Holds, Kept, Reach};
 
 use fault::{Cause, Fault};
 use meaning::{After, Place, Slip};
 use source::{Source, StreamState};
-use tables::streams::{print, read};
+use tables::Tables;
 use types::Shape;
 
 /// Prints the value of row a behind what is printed; where the output has no room for all of it, nothing is, and the row waits.
@@ -15,17 +14,15 @@ pub fn print_row(
     place: Place,
     a: u16,
     slips: &[Slip],
-    booleans: &[bool],
-    characters: &[i8],
-    integers: &[i32],
+    tables: &Tables,
     output: &mut [u8],
     printed: &mut usize,
 ) -> Result<After, Fault>
     requires before { a < place.row }
     requires width { place.width ≤ 1024 }
     requires room { printed.old ≤ length output.old }
-    requires ample { Ample place (length booleans.now) (length characters.now) (length integers.now) }
-    ensures row { InOutput (outputting place a) slips.now (tables booleans.now characters.now integers.now) output.old printed.old result output.new printed.new }
+    requires ample { Holds place tables.now }
+    ensures row { InOutput (outputting place a) slips.now (held tables.now) output.old printed.old result output.new printed.new }
     ensures room { printed.new ≤ length output.new }
 {
     let x = place.operand(slips, a)?;
@@ -33,9 +30,7 @@ pub fn print_row(
         return Err(place.fault(Cause::NoRule, 0));
     }
     let at = place.start_of(a);
-    match print(
-        x.kind, x.shape, x.r, x.s, at, output, *printed, booleans, characters, integers,
-    ) {
+    match tables.print(x.kind, x.shape, x.r, x.s, at, output, *printed) {
         Some(end) => {
             *printed = end;
             Ok(After::Row(place.row as usize + 1))
@@ -49,22 +44,21 @@ pub fn read_row<S: Source>(
     place: Place,
     i: u16,
     slips: &[Slip],
-    booleans: &mut [bool],
-    characters: &mut [i8],
-    integers: &mut [i32],
+    tables: &mut Tables,
     source: &mut S,
     taken: &mut u32,
     stream: &mut StreamState,
 ) -> Result<After, Fault>
     requires before { i < place.row }
-    requires ample { Ample place (length booleans.old) (length characters.old) (length integers.old) }
-    ensures { FromSource (inputting place i) taken.old stream.old slips.now (tables booleans.old characters.old integers.old) (S.waiting source.old) result taken.new stream.new (tables booleans.new characters.new integers.new) (S.waiting source.new) }
+    requires ample { Holds place tables.old }
+    ensures value { FromSource (inputting place i) taken.old stream.old slips.now (held tables.old) (S.waiting source.old) result taken.new stream.new (held tables.new) (S.waiting source.new) }
+    ensures lent { Kept tables.old tables.new }
 {
     let x = place.operand(slips, i)?;
     if !Shape::Scalar.same(x.shape) {
         return Err(place.fault(Cause::NoRule, 0));
     }
     let to = place.start_of(i);
-    *stream = read(x.kind, source, taken, to, booleans, characters, integers);
+    *stream = tables.read(x.kind, source, taken, to);
     Ok(After::Row(place.row as usize + 1))
 }

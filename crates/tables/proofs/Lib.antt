@@ -4,3 +4,4 @@ pub mod Casting
 pub mod Same
 pub mod Shaping
 pub mod Streaming
+pub mod Reaching

@@ -1,15 +1,15 @@
 use Rattle.std.proofs.lemmas.Result.{IfOk-from_err}
 use Rattle.meaning.specs.Changes.{assigned}
-use Rattle.meaning.specs.States.{tables}
 use Rattle.changes.proofs.Filling.{filled_2}
 use Rattle.changes.proofs.Assigning.{assign_refused, assign_given, assign_filled}
+use Rattle.tables.specs.Lent.{held}
 use Rattle.changes.proofs.assigns.assign_row.Goals as goal
 
 pub returns-in_err-form : goal.returns-in_err-form
 returns-in_err-form c =
     let a = c.args in
     let p = a.place in
-    let t = tables a.booleans.now a.characters.now a.integers.now in
+    let t = held a.tables.now in
     let x = c.in_ok-x.x in
     let y = c.in_ok-y.y in
     let r = c.from_residual-in_err-form.result in
@@ -22,7 +22,7 @@ returns-in_err-form c =
 pub write_value-requires : goal.write_value-requires
 write_value-requires c =
     let a = c.args in
-    let t = tables a.booleans.now a.characters.now a.integers.now in
+    let t = held a.tables.now in
     record {
       before = c.requires.before;
       under = c.requires.under;
@@ -34,13 +34,13 @@ pub returns : goal.returns
 returns c =
     let a = c.args in
     let p = a.place in
-    let t = tables a.booleans.now a.characters.now a.integers.now in
-    let u = tables c.write_value.new.booleans c.write_value.new.characters c.write_value.new.integers in
+    let t = held a.tables.now in
+    let u = tables c.write_value.new.tables.booleans.now c.write_value.new.tables.characters.now c.write_value.new.tables.integers.now in
     let x = c.in_ok-x.x in
     let y = c.in_ok-y.y in
     let form = c.in_ok-form.form in
     record {
       filled = filled_2 p a.v a.slips.now t u _ a.v a.a assigned x y c.in_ok-x.ensures.is c.in_ok-y.ensures.is
-          (assign_filled p t a.v a.a x y c.in_ok-y.ensures.lawful form c.in_ok-form.ensures.is c.in_ok-x.ensures.lawful u c.write_value.ensures);
+          (assign_filled p t a.v a.a x y c.in_ok-y.ensures.lawful form c.in_ok-form.ensures.is c.in_ok-x.ensures.lawful u c.write_value.ensures.value);
       within = c.in_ok-form.ensures.within;
     }

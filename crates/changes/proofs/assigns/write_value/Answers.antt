@@ -1,10 +1,10 @@
 use Rattle.std.proofs.Common.{◌+◌, ◌*◌, length, sym, arith}
-use Rattle.meaning.specs.States.{tables}
 use Rattle.meaning.specs.Values.{known}
 use Rattle.meaning.proofs.Rows.{under_all}
 use Rattle.changes.proofs.Reading.{next_cell, one_cell}
 use Rattle.changes.proofs.Taking.{taken_list}
 use Rattle.changes.proofs.Assigning.{given_copy, given_spread, given_unfold, unfold_count}
+use Rattle.tables.specs.Lent.{held}
 use Rattle.changes.proofs.assigns.write_value.Goals as goal
 
 pub copy_down-requires : goal.copy_down-requires
@@ -17,7 +17,7 @@ copy_down-requires c =
     let m = c.requires.ample in
     let f = c.start_of-from.ensures in
     let t = c.start_of-to.ensures in
-    record { above = omega (arith, l, n, f, t); booleans = omega (arith, u, n, f, m.booleans); characters = omega (arith, u, n, f, m.characters); integers = omega (arith, u, n, f, m.integers) }
+    record { above = omega (arith, l, n, f, t); within = record { booleans = omega (arith, u, n, f, m.booleans); characters = omega (arith, u, n, f, m.characters); integers = omega (arith, u, n, f, m.integers) } }
 
 pub spread-requires : goal.spread-requires
 spread-requires c =
@@ -35,16 +35,18 @@ spread-requires c =
       from_booleans = omega (arith, o, f, m.booleans);
       from_characters = omega (arith, o, f, m.characters);
       from_integers = omega (arith, o, f, m.integers);
-      booleans = omega (arith, l, u, n, t, m.booleans);
-      characters = omega (arith, l, u, n, t, m.characters);
-      integers = omega (arith, l, u, n, t, m.integers);
+      within = record {
+        booleans = omega (arith, l, u, n, t, m.booleans);
+        characters = omega (arith, l, u, n, t, m.characters);
+        integers = omega (arith, l, u, n, t, m.integers);
+      };
     }
 
 pub unfold_interval-requires : goal.unfold_interval-requires
 unfold_interval-requires c =
     let a = c.args in
     let p = a.place in
-    let tab = tables a.booleans.now a.characters.now a.integers.now in
+    let tab = held a.tables.now in
     let l = under_all p.width a.v a.a c.requires.under in
     let u = under_all p.width a.a p.row c.requires.before in
     let m = c.requires.ample in
@@ -52,29 +54,29 @@ unfold_interval-requires c =
     let t = c.start_of-to.ensures in
     let e = sym c.if-same.ensures in
     let s = sym c.if-same-2.ensures in
-    let o = next_cell p.width a.a p.row (length a.integers.now) a.y c.requires.before c.requires.given.value (taken_list (known a.x) a.y c.requires.given.taken e) m.integers in
+    let o = next_cell p.width a.a p.row (length a.tables.now.integers.now) a.y c.requires.before c.requires.given.value (taken_list (known a.x) a.y c.requires.given.taken e) m.integers in
     let n = unfold_count p.width tab a.v a.a a.x a.y c.requires.given c.start_of-from.result c.start_of-to.result c.area-n.result f t c.area-n.ensures.value e s in
     record { bounds = omega (arith, o, f); within = omega (arith, n, l, u, t, m.integers) }
 
-pub returns-then-same : goal.returns-then-same
-returns-then-same c =
+pub returns-then-same-clause-value : goal.returns-then-same-clause-value
+returns-then-same-clause-value c =
     let a = c.args in
     let p = a.place in
-    let t = tables a.booleans.now a.characters.now a.integers.now in
-    let u = tables c.copy_down.new.booleans c.copy_down.new.characters c.copy_down.new.integers in
-    given_copy p.width t a.v a.a a.x a.y c.requires.given c.start_of-from.result c.start_of-to.result c.area-n.result c.start_of-from.ensures c.start_of-to.ensures c.area-n.ensures.value u (sym c.if-same.ensures) c.copy_down.ensures
+    let t = held a.tables.now in
+    let u = tables c.copy_down.new.self.booleans.now c.copy_down.new.self.characters.now c.copy_down.new.self.integers.now in
+    given_copy p.width t a.v a.a a.x a.y c.requires.given c.start_of-from.result c.start_of-to.result c.area-n.result c.start_of-from.ensures c.start_of-to.ensures c.area-n.ensures.value u (sym c.if-same.ensures) c.copy_down.ensures.value
 
-pub returns-then-same-2 : goal.returns-then-same-2
-returns-then-same-2 c =
+pub returns-then-same-2-clause-value : goal.returns-then-same-2-clause-value
+returns-then-same-2-clause-value c =
     let a = c.args in
     let p = a.place in
-    let t = tables a.booleans.now a.characters.now a.integers.now in
-    let u = tables c.spread.new.booleans c.spread.new.characters c.spread.new.integers in
-    given_spread p.width t a.v a.a a.x a.y c.requires.given c.start_of-from.result c.start_of-to.result c.area-n.result c.start_of-from.ensures c.start_of-to.ensures c.area-n.ensures.value u (sym c.if-same.ensures) (sym c.if-same-2.ensures) c.spread.ensures
+    let t = held a.tables.now in
+    let u = tables c.spread.new.self.booleans.now c.spread.new.self.characters.now c.spread.new.self.integers.now in
+    given_spread p.width t a.v a.a a.x a.y c.requires.given c.start_of-from.result c.start_of-to.result c.area-n.result c.start_of-from.ensures c.start_of-to.ensures c.area-n.ensures.value u (sym c.if-same.ensures) (sym c.if-same-2.ensures) c.spread.ensures.value
 
-pub returns-else-same-2 : goal.returns-else-same-2
-returns-else-same-2 c =
+pub returns-else-same-2-clause-value : goal.returns-else-same-2-clause-value
+returns-else-same-2-clause-value c =
     let a = c.args in
     let p = a.place in
-    let t = tables a.booleans.now a.characters.now a.integers.now in
-    given_unfold p.width t a.v a.a a.x a.y c.requires.given c.start_of-from.result c.start_of-to.result c.area-n.result c.start_of-from.ensures c.start_of-to.ensures c.area-n.ensures.value (sym c.if-same.ensures) (sym c.if-same-2.ensures) c.unfold_interval.new.integers c.unfold_interval.ensures
+    let t = held a.tables.now in
+    given_unfold p.width t a.v a.a a.x a.y c.requires.given c.start_of-from.result c.start_of-to.result c.area-n.result c.start_of-from.ensures c.start_of-to.ensures c.area-n.ensures.value (sym c.if-same.ensures) (sym c.if-same-2.ensures) c.unfold_interval.new.tables.integers.now c.unfold_interval.ensures

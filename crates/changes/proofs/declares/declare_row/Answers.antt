@@ -1,15 +1,15 @@
 use Rattle.std.proofs.lemmas.Result.{IfOk-from_err}
 use Rattle.meaning.specs.Changes.{declared}
-use Rattle.meaning.specs.States.{tables}
 use Rattle.changes.proofs.Filling.{filled_1}
 use Rattle.changes.proofs.Declaring.{declare_refused, declare_begun, declare_filled}
+use Rattle.tables.specs.Lent.{held}
 use Rattle.changes.proofs.declares.declare_row.Goals as goal
 
 pub returns-in_err-form : goal.returns-in_err-form
 returns-in_err-form c =
     let a = c.args in
     let p = a.place in
-    let t = tables a.booleans.now a.characters.now a.integers.now in
+    let t = held a.tables.now in
     let y = c.in_ok-y.y in
     let r = c.from_residual-in_err-form.result in
     record {
@@ -21,7 +21,7 @@ returns-in_err-form c =
 pub write_beginning-requires : goal.write_beginning-requires
 write_beginning-requires c =
     let a = c.args in
-    let t = tables a.booleans.now a.characters.now a.integers.now in
+    let t = held a.tables.now in
     record {
       before = c.requires.before;
       begun = declare_begun a.place t a.w a.a c.in_ok-y.y c.in_ok-y.ensures.lawful c.in_ok-form.form c.in_ok-form.ensures.is c.in_ok-form.ensures.within;
@@ -32,12 +32,12 @@ pub returns : goal.returns
 returns c =
     let a = c.args in
     let p = a.place in
-    let t = tables a.booleans.now a.characters.now a.integers.now in
-    let u = tables c.write_beginning.new.booleans c.write_beginning.new.characters c.write_beginning.new.integers in
+    let t = held a.tables.now in
+    let u = tables c.write_beginning.new.tables.booleans.now c.write_beginning.new.tables.characters.now c.write_beginning.new.tables.integers.now in
     let y = c.in_ok-y.y in
     let form = c.in_ok-form.form in
     record {
       filled = filled_1 p p.row a.slips.now t u _ a.a (declared a.w) y c.in_ok-y.ensures.is
-          (declare_filled p t a.w a.a y c.in_ok-y.ensures.lawful form c.in_ok-form.ensures.is u c.write_beginning.ensures);
+          (declare_filled p t a.w a.a y c.in_ok-y.ensures.lawful form c.in_ok-form.ensures.is u c.write_beginning.ensures.value);
       within = c.in_ok-form.ensures.within;
     }

@@ -1,9 +1,9 @@
 use Rattle.std.proofs.Common.{◌+◌, ◌*◌, length, sym, arith}
-use Rattle.meaning.specs.States.{tables}
 use Rattle.meaning.proofs.Rows.{under_all, lawful_small, within_small}
 use Rattle.changes.proofs.Reading.{next_cell, one_cell}
 use Rattle.changes.proofs.Taking.{taken_list}
 use Rattle.changes.proofs.Declaring.{begun_resize, begun_spread, begun_unfold, begun_few}
+use Rattle.tables.specs.Lent.{held}
 use Rattle.changes.proofs.declares.write_beginning.Goals as goal
 
 pub resize_matrix-requires : goal.resize_matrix-requires
@@ -16,7 +16,7 @@ resize_matrix-requires c =
     let m = c.requires.ample in
     let f = c.start_of-from.ensures in
     let t = c.start_of-to.ensures in
-    record { below = omega (arith, u, n, f, t); booleans = omega (arith, s, t, m.booleans); characters = omega (arith, s, t, m.characters); integers = omega (arith, s, t, m.integers) }
+    record { below = omega (arith, u, n, f, t); within = record { booleans = omega (arith, s, t, m.booleans); characters = omega (arith, s, t, m.characters); integers = omega (arith, s, t, m.integers) } }
 
 pub spread-requires : goal.spread-requires
 spread-requires c =
@@ -32,48 +32,50 @@ spread-requires c =
       from_booleans = omega (arith, o, f, m.booleans);
       from_characters = omega (arith, o, f, m.characters);
       from_integers = omega (arith, o, f, m.integers);
-      booleans = omega (arith, n, t, m.booleans);
-      characters = omega (arith, n, t, m.characters);
-      integers = omega (arith, n, t, m.integers);
+      within = record {
+        booleans = omega (arith, n, t, m.booleans);
+        characters = omega (arith, n, t, m.characters);
+        integers = omega (arith, n, t, m.integers);
+      };
     }
 
 pub unfold_padded-requires : goal.unfold_padded-requires
 unfold_padded-requires c =
     let a = c.args in
     let p = a.place in
-    let tab = tables a.booleans.now a.characters.now a.integers.now in
+    let tab = held a.tables.now in
     let n = (within_small p.width a.form c.requires.begun.small).elements in
     let m = c.requires.ample in
     let f = c.start_of-from.ensures in
     let t = c.start_of-to.ensures in
     let e = sym c.if-same.ensures in
     let s = sym c.if-same-2.ensures in
-    let o = next_cell p.width a.a p.row (length a.integers.now) a.y c.requires.before c.requires.begun.value (taken_list a.w a.y c.requires.begun.taken e) m.integers in
+    let o = next_cell p.width a.a p.row (length a.tables.now.integers.now) a.y c.requires.before c.requires.begun.value (taken_list a.w a.y c.requires.begun.taken e) m.integers in
     record {
       bounds = omega (arith, o, f);
       few = begun_few p.width tab a.w a.a p.row a.y a.form c.requires.begun c.start_of-from.result c.start_of-to.result f t e s;
       within = omega (arith, n, t, m.integers);
     }
 
-pub returns-then-same : goal.returns-then-same
-returns-then-same c =
+pub returns-then-same-clause-value : goal.returns-then-same-clause-value
+returns-then-same-clause-value c =
     let a = c.args in
     let p = a.place in
-    let t = tables a.booleans.now a.characters.now a.integers.now in
-    let u = tables c.resize_matrix.new.booleans c.resize_matrix.new.characters c.resize_matrix.new.integers in
-    begun_resize p.width t a.w a.a p.row a.y a.form c.requires.begun c.start_of-from.result c.start_of-to.result c.start_of-from.ensures c.start_of-to.ensures u (sym c.if-same.ensures) c.resize_matrix.ensures
+    let t = held a.tables.now in
+    let u = tables c.resize_matrix.new.self.booleans.now c.resize_matrix.new.self.characters.now c.resize_matrix.new.self.integers.now in
+    begun_resize p.width t a.w a.a p.row a.y a.form c.requires.begun c.start_of-from.result c.start_of-to.result c.start_of-from.ensures c.start_of-to.ensures u (sym c.if-same.ensures) c.resize_matrix.ensures.value
 
-pub returns-then-same-2 : goal.returns-then-same-2
-returns-then-same-2 c =
+pub returns-then-same-2-clause-value : goal.returns-then-same-2-clause-value
+returns-then-same-2-clause-value c =
     let a = c.args in
     let p = a.place in
-    let t = tables a.booleans.now a.characters.now a.integers.now in
-    let u = tables c.spread.new.booleans c.spread.new.characters c.spread.new.integers in
-    begun_spread p.width t a.w a.a p.row a.y a.form c.requires.begun c.start_of-from.result c.start_of-to.result c.start_of-from.ensures c.start_of-to.ensures u (sym c.if-same.ensures) (sym c.if-same-2.ensures) c.spread.ensures
+    let t = held a.tables.now in
+    let u = tables c.spread.new.self.booleans.now c.spread.new.self.characters.now c.spread.new.self.integers.now in
+    begun_spread p.width t a.w a.a p.row a.y a.form c.requires.begun c.start_of-from.result c.start_of-to.result c.start_of-from.ensures c.start_of-to.ensures u (sym c.if-same.ensures) (sym c.if-same-2.ensures) c.spread.ensures.value
 
-pub returns-else-same-2 : goal.returns-else-same-2
-returns-else-same-2 c =
+pub returns-else-same-2-clause-value : goal.returns-else-same-2-clause-value
+returns-else-same-2-clause-value c =
     let a = c.args in
     let p = a.place in
-    let t = tables a.booleans.now a.characters.now a.integers.now in
-    begun_unfold p.width t a.w a.a p.row a.y a.form c.requires.begun c.start_of-from.result c.start_of-to.result c.start_of-from.ensures c.start_of-to.ensures (sym c.if-same.ensures) (sym c.if-same-2.ensures) c.unfold_padded.new.integers c.unfold_padded.ensures
+    let t = held a.tables.now in
+    begun_unfold p.width t a.w a.a p.row a.y a.form c.requires.begun c.start_of-from.result c.start_of-to.result c.start_of-from.ensures c.start_of-to.ensures (sym c.if-same.ensures) (sym c.if-same-2.ensures) c.unfold_padded.new.tables.integers.now c.unfold_padded.ensures

@@ -1,19 +1,19 @@
 use Rattle.element.specs.Cells.{cells}
-use Rattle.meaning.specs.States.{tables}
 use Rattle.tables.proofs.Changing.{changed_boolean, changed_character, changed_integer}
+use Rattle.tables.specs.Lent.{held}
 use Rattle.changes.proofs.moves.copy_down.Goals as goal
 
-pub returns-in-Boolean : goal.returns-in-Boolean
-returns-in-Boolean c =
+pub returns-in-Boolean-clause-value : goal.returns-in-Boolean-clause-value
+returns-in-Boolean-clause-value c =
     let a = c.args in
-    changed_boolean _ (tables a.booleans.now a.characters.now a.integers.now) _ (λ k T. cells T a.from a.n) c.in-Boolean.is c.copy_cells_down.ensures
+    changed_boolean _ (held a.tables.now) _ (λ k T. cells T a.from a.n) c.in-Boolean.is c.copy_cells_down.ensures
 
-pub returns-in-Character : goal.returns-in-Character
-returns-in-Character c =
+pub returns-in-Character-clause-value : goal.returns-in-Character-clause-value
+returns-in-Character-clause-value c =
     let a = c.args in
-    changed_character _ (tables a.booleans.now a.characters.now a.integers.now) _ (λ k T. cells T a.from a.n) c.in-Character.is c.copy_cells_down-in-Character.ensures
+    changed_character _ (held a.tables.now) _ (λ k T. cells T a.from a.n) c.in-Character.is c.copy_cells_down-in-Character.ensures
 
-pub returns-in-Integer : goal.returns-in-Integer
-returns-in-Integer c =
+pub returns-in-Integer-clause-value : goal.returns-in-Integer-clause-value
+returns-in-Integer-clause-value c =
     let a = c.args in
-    changed_integer _ (tables a.booleans.now a.characters.now a.integers.now) _ (λ k T. cells T a.from a.n) c.in-Integer.is c.copy_cells_down-in-Integer.ensures
+    changed_integer _ (held a.tables.now) _ (λ k T. cells T a.from a.n) c.in-Integer.is c.copy_cells_down-in-Integer.ensures

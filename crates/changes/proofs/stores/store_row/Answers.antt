@@ -1,17 +1,17 @@
 use Rattle.std.proofs.Common.{length}
 use Rattle.std.proofs.lemmas.Result.{IfOk-from_err}
 use Rattle.meaning.specs.Changes.{stored_at}
-use Rattle.meaning.specs.States.{tables}
 use Rattle.changes.proofs.Filling.{filled_3, indexed_within}
 use Rattle.changes.proofs.Reading.{next_cell}
 use Rattle.changes.proofs.Storing.{ruled, by_list, store_refused, store_filled, store_above, store_under, store_seen, store_fits}
+use Rattle.tables.specs.Lent.{held}
 use Rattle.changes.proofs.stores.store_row.Goals as goal
 
 pub returns-in_err-form : goal.returns-in_err-form
 returns-in_err-form c =
     let a = c.args in
     let p = a.place in
-    let t = tables a.booleans.now a.characters.now a.integers.now in
+    let t = held a.tables.now in
     let x = c.in_ok-x.x in
     let y = c.in_ok-y.y in
     let z = c.in_ok-z.z in
@@ -26,19 +26,19 @@ pub list_at-index-requires : goal.list_at-index-requires
 list_at-index-requires c =
     let a = c.args in
     let p = a.place in
-    let t = tables a.booleans.now a.characters.now a.integers.now in
+    let t = held a.tables.now in
     let x = c.in_ok-x.x in
     let y = c.in_ok-y.y in
     let z = c.in_ok-z.z in
     let ly = c.in_ok-y.ensures.lawful in
-    next_cell p.width a.b p.row (length a.integers.now) y c.requires.index ly
+    next_cell p.width a.b p.row (length a.tables.now.integers.now) y c.requires.index ly
     (by_list x y z (ruled p t a.v a.b a.c x y z ly c.in_ok-form.form c.in_ok-form.ensures.is c.in_ok-x.ensures.lawful c.in_ok-z.ensures.lawful)) c.requires.ample.integers
 
 pub store-stored-requires : goal.store-stored-requires
 store-stored-requires c =
     let a = c.args in
     let p = a.place in
-    let t = tables a.booleans.now a.characters.now a.integers.now in
+    let t = held a.tables.now in
     let x = c.in_ok-x.x in
     let y = c.in_ok-y.y in
     let z = c.in_ok-z.z in
@@ -53,18 +53,20 @@ store-stored-requires c =
     record {
       above = store_above p t a.v a.b a.c x y z ly form g lx lz to.result to.ensures ix.result ix.ensures vs.result vs.ensures c.requires.index c.requires.value c.requires.under_index c.requires.under_value;
       indices = store_under p t a.v a.b a.c x y z ly form g lx lz to.result to.ensures ix.result ix.ensures vs.result vs.ensures c.requires.index c.requires.value c.requires.under_index c.requires.under_value;
-      seen = store_seen p t a.v a.b a.c x y z ly form g lx lz to.result to.ensures ix.result ix.ensures vs.result vs.ensures c.requires.index c.requires.value c.requires.under_index c.requires.under_value (length a.integers.now) c.requires.ample.integers;
-      booleans = store_fits p t a.v a.b a.c x y z ly form g lx lz to.result to.ensures ix.result ix.ensures vs.result vs.ensures c.requires.index c.requires.value c.requires.under_index c.requires.under_value (length a.booleans.now) c.requires.ample.booleans;
-      characters = store_fits p t a.v a.b a.c x y z ly form g lx lz to.result to.ensures ix.result ix.ensures vs.result vs.ensures c.requires.index c.requires.value c.requires.under_index c.requires.under_value (length a.characters.now) c.requires.ample.characters;
-      integers = store_fits p t a.v a.b a.c x y z ly form g lx lz to.result to.ensures ix.result ix.ensures vs.result vs.ensures c.requires.index c.requires.value c.requires.under_index c.requires.under_value (length a.integers.now) c.requires.ample.integers;
+      seen = store_seen p t a.v a.b a.c x y z ly form g lx lz to.result to.ensures ix.result ix.ensures vs.result vs.ensures c.requires.index c.requires.value c.requires.under_index c.requires.under_value (length a.tables.now.integers.now) c.requires.ample.integers;
+      within = record {
+        booleans = store_fits p t a.v a.b a.c x y z ly form g lx lz to.result to.ensures ix.result ix.ensures vs.result vs.ensures c.requires.index c.requires.value c.requires.under_index c.requires.under_value (length a.tables.now.booleans.now) c.requires.ample.booleans;
+        characters = store_fits p t a.v a.b a.c x y z ly form g lx lz to.result to.ensures ix.result ix.ensures vs.result vs.ensures c.requires.index c.requires.value c.requires.under_index c.requires.under_value (length a.tables.now.characters.now) c.requires.ample.characters;
+        integers = store_fits p t a.v a.b a.c x y z ly form g lx lz to.result to.ensures ix.result ix.ensures vs.result vs.ensures c.requires.index c.requires.value c.requires.under_index c.requires.under_value (length a.tables.now.integers.now) c.requires.ample.integers;
+      };
     }
 
 pub returns : goal.returns
 returns c =
     let a = c.args in
     let p = a.place in
-    let t = tables a.booleans.now a.characters.now a.integers.now in
-    let u = tables c.store-stored.new.booleans c.store-stored.new.characters c.store-stored.new.integers in
+    let t = held a.tables.now in
+    let u = tables c.store-stored.new.self.booleans.now c.store-stored.new.self.characters.now c.store-stored.new.self.integers.now in
     let x = c.in_ok-x.x in
     let y = c.in_ok-y.y in
     let z = c.in_ok-z.z in
@@ -79,6 +81,6 @@ returns c =
     let s = c.store-stored.result in
     record {
       filled = filled_3 p a.v a.slips.now t u c.indexed.result a.v a.b a.c stored_at x y z c.in_ok-x.ensures.is c.in_ok-y.ensures.is c.in_ok-z.ensures.is
-          (store_filled p t a.v a.b a.c x y z ly form g lx lz to.result to.ensures ix.result ix.ensures vs.result vs.ensures u s c.indexed.result c.store-stored.ensures c.indexed.ensures);
+          (store_filled p t a.v a.b a.c x y z ly form g lx lz to.result to.ensures ix.result ix.ensures vs.result vs.ensures u s c.indexed.result c.store-stored.ensures.value c.indexed.ensures);
       within = indexed_within p form s c.indexed.result c.indexed.ensures c.in_ok-form.ensures.within;
     }

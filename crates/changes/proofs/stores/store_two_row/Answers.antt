@@ -2,16 +2,17 @@ use Rattle.std.proofs.Common.{length}
 use Rattle.std.proofs.lemmas.Result.{IfOk-from_err}
 use Rattle.meaning.specs.Changes.{stored_at_two}
 use Rattle.meaning.specs.Expressions.{by3}
-use Rattle.meaning.specs.States.{tables, value_from, value_in}
+use Rattle.meaning.specs.States.{value_from, value_in}
 use Rattle.changes.proofs.Filling.{filled_with, filled_3, refused, indexed_within}
 use Rattle.changes.proofs.StoringTwo.{two_filled, row_below, column_below, value_below, matrix_fits}
+use Rattle.tables.specs.Lent.{held}
 use Rattle.changes.proofs.stores.store_two_row.Goals as goal
 
 pub returns-in_err-form : goal.returns-in_err-form
 returns-in_err-form c =
     let a = c.args in
     let p = a.place in
-    let t = tables a.booleans.now a.characters.now a.integers.now in
+    let t = held a.tables.now in
     let x = c.in_ok-x.x in
     let y = c.in_ok-y.y in
     let z = c.in_ok-z.z in
@@ -28,7 +29,7 @@ pub store_at_cells-stored-requires : goal.store_at_cells-stored-requires
 store_at_cells-stored-requires c =
     let a = c.args in
     let p = a.place in
-    let t = tables a.booleans.now a.characters.now a.integers.now in
+    let t = held a.tables.now in
     let x = c.in_ok-x.x in
     let y = c.in_ok-y.y in
     let z = c.in_ok-z.z in
@@ -43,26 +44,28 @@ store_at_cells-stored-requires c =
     let row = c.start_of-row in
     let column = c.start_of-column in
     let from = c.start_of-from in
-    let bs = length a.booleans.now in
-    let cs = length a.characters.now in
-    let is = length a.integers.now in
+    let bs = length a.tables.now.booleans.now in
+    let cs = length a.tables.now.characters.now in
+    let is = length a.tables.now.integers.now in
     record {
       row = row_below p t a.v a.b a.c a.d x y z w form g lx ly lz lw to.result row.result column.result from.result to.ensures row.ensures column.ensures from.ensures is c.requires.ample.integers c.requires.row;
       column = column_below p t a.v a.b a.c a.d x y z w form g lx ly lz lw to.result row.result column.result from.result to.ensures row.ensures column.ensures from.ensures is c.requires.ample.integers c.requires.column;
       from_booleans = value_below p t a.v a.b a.c a.d x y z w form g lx ly lz lw to.result row.result column.result from.result to.ensures row.ensures column.ensures from.ensures bs c.requires.ample.booleans c.requires.value;
       from_characters = value_below p t a.v a.b a.c a.d x y z w form g lx ly lz lw to.result row.result column.result from.result to.ensures row.ensures column.ensures from.ensures cs c.requires.ample.characters c.requires.value;
       from_integers = value_below p t a.v a.b a.c a.d x y z w form g lx ly lz lw to.result row.result column.result from.result to.ensures row.ensures column.ensures from.ensures is c.requires.ample.integers c.requires.value;
-      booleans = matrix_fits p t a.v a.b a.c a.d x y z w form g lx ly lz lw to.result row.result column.result from.result to.ensures row.ensures column.ensures from.ensures bs c.requires.ample.booleans c.requires.before;
-      characters = matrix_fits p t a.v a.b a.c a.d x y z w form g lx ly lz lw to.result row.result column.result from.result to.ensures row.ensures column.ensures from.ensures cs c.requires.ample.characters c.requires.before;
-      integers = matrix_fits p t a.v a.b a.c a.d x y z w form g lx ly lz lw to.result row.result column.result from.result to.ensures row.ensures column.ensures from.ensures is c.requires.ample.integers c.requires.before;
+      within = record {
+        booleans = matrix_fits p t a.v a.b a.c a.d x y z w form g lx ly lz lw to.result row.result column.result from.result to.ensures row.ensures column.ensures from.ensures bs c.requires.ample.booleans c.requires.before;
+        characters = matrix_fits p t a.v a.b a.c a.d x y z w form g lx ly lz lw to.result row.result column.result from.result to.ensures row.ensures column.ensures from.ensures cs c.requires.ample.characters c.requires.before;
+        integers = matrix_fits p t a.v a.b a.c a.d x y z w form g lx ly lz lw to.result row.result column.result from.result to.ensures row.ensures column.ensures from.ensures is c.requires.ample.integers c.requires.before;
+      };
     }
 
 pub returns : goal.returns
 returns c =
     let a = c.args in
     let p = a.place in
-    let t = tables a.booleans.now a.characters.now a.integers.now in
-    let u = tables c.store_at_cells-stored.new.booleans c.store_at_cells-stored.new.characters c.store_at_cells-stored.new.integers in
+    let t = held a.tables.now in
+    let u = tables c.store_at_cells-stored.new.tables.booleans.now c.store_at_cells-stored.new.tables.characters.now c.store_at_cells-stored.new.tables.integers.now in
     let x = c.in_ok-x.x in
     let y = c.in_ok-y.y in
     let z = c.in_ok-z.z in
@@ -82,6 +85,6 @@ returns c =
     record {
       filled = filled_with p a.v a.slips.now t u r a.v (λ o. by3 p.width (value_in p.width a.slips.now t) a.b a.c a.d (stored_at_two o)) x c.in_ok-x.ensures.is
           (filled_3 p a.v a.slips.now t u r a.b a.c a.d (stored_at_two (value_from p.width t a.v x)) y z w c.in_ok-y.ensures.is c.in_ok-z.ensures.is c.in_ok-w.ensures.is
-          (two_filled p t a.v a.b a.c a.d x y z w form g lx ly lz lw to.result row.result column.result from.result to.ensures row.ensures column.ensures from.ensures u s r c.store_at_cells-stored.ensures c.indexed.ensures));
+          (two_filled p t a.v a.b a.c a.d x y z w form g lx ly lz lw to.result row.result column.result from.result to.ensures row.ensures column.ensures from.ensures u s r c.store_at_cells-stored.ensures.value c.indexed.ensures));
       within = indexed_within p form s r c.indexed.ensures c.in_ok-form.ensures.within;
     }

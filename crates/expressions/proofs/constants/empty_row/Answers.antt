@@ -1,9 +1,8 @@
 use Rattle.std.proofs.Common.{true, None, ap, ◌∙◌}
 use Rattle.meaning.specs.declared.layouts.Layout.{Layout}
-use Rattle.meaning.specs.States.{tables}
 use Rattle.meaning.specs.Works.{guards}
 use Rattle.expressions.proofs.Building.{empty_made}
 use Rattle.expressions.proofs.constants.empty_row.Goals as goal
 
 pub returns : goal.returns
-returns c bs cs is = empty_made c.args.place c.args.kind (tables bs cs is) c.guard.result (c.guard.ensures.is ∙ ap (λ (f : Layout). guards c.args.place true true None f true) c.vector.ensures)
+returns c t = empty_made c.args.place c.args.kind t c.guard.result (c.guard.ensures.is ∙ ap (λ (f : Layout). guards c.args.place true true None f true) c.vector.ensures)

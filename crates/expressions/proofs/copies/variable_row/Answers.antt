@@ -7,5 +7,5 @@ pub copy-requires : goal.copy-requires
 copy-requires c =
     let p = c.args.place in
     let s = within_small p.width c.in_ok-form.form c.in_ok-form.ensures.within in
-    let m = room p (length c.args.booleans.now) (length c.args.characters.now) (length c.args.integers.now) c.args.a c.start_of-at.result c.start_of-to.result _ c.requires.ample c.requires.before c.start_of-at.ensures c.start_of-to.ensures s.elements in
-    record { below = m.below; booleans = m.booleans; characters = m.characters; integers = m.integers }
+    let m = room p c.args.tables.now c.args.a c.start_of-at.result c.start_of-to.result _ c.requires.ample c.requires.before c.start_of-at.ensures c.start_of-to.ensures s.elements in
+    record { below = m.below; within = m.within }

@@ -12,11 +12,11 @@ settle-requires c =
     let at = value_in g.place.width g.slips.now t in
     record {
       row = c.requires.row;
-      within = told_within g.place (evaluated g.place.width at g.stream g.expression) t _ c.evaluate-made.result (evaluated_within g.place.width at g.stream g.expression) c.evaluate-made.ensures;
+      within = told_within g.place (evaluated g.place.width at g.stream g.expression) t _ c.evaluate-made.result (evaluated_within g.place.width at g.stream g.expression) c.evaluate-made.ensures.value;
     }
 
-pub returns : goal.returns
-returns c s =
+pub returns-clause-value : goal.returns-clause-value
+returns-clause-value c s =
     let g = c.args in
     let t = tables g.booleans.now g.characters.now g.integers.now in
-    settles g.place (holding s g.slips.now t) (evaluated g.place.width (value_in g.place.width g.slips.now t) g.stream g.expression) c.evaluate-made.result _ c.settle.result c.settle.new.slips c.evaluate-made.ensures c.settle.ensures.answer c.settle.ensures.slips
+    settles g.place (holding s g.slips.now t) (evaluated g.place.width (value_in g.place.width g.slips.now t) g.stream g.expression) c.evaluate-made.result _ c.settle.result c.settle.new.slips c.evaluate-made.ensures.value c.settle.ensures.answer c.settle.ensures.slips

@@ -1,10 +1,11 @@
 use Rattle.std.proofs.Common.{◌∙◌, arith, rules}
 use Rattle.meaning.specs.Expressions.{pick_two}
-use Rattle.meaning.specs.States.{tables}
 use Rattle.meaning.proofs.Shells.{refused_3, made_3}
 use Rattle.meaning.proofs.Rows.{under_all, lawful_small}
 use Rattle.selections.proofs.Choosing.{chosen_made, read_below}
 use Rattle.selections.proofs.Matrices.{cross_at, cross_guarded, cross_outside, cross_elements, cross_few}
+use Rattle.tables.specs.Lent.{held}
+use Rattle.tables.proofs.Reaching.{reach}
 use Rattle.selections.proofs.crossing.pick_two_row.Goals as goal
 
 pub list_at-rows-requires : goal.list_at-rows-requires
@@ -19,10 +20,10 @@ list_at-columns-requires c =
     let u = under_all p.width c.args.c p.row c.requires.column in
     omega (arith, u, c.requires.ample.integers, c.requires.wide)
 
-pub returns-in_err-form : goal.returns-in_err-form
-returns-in_err-form c =
+pub returns-in_err-form-clause-value : goal.returns-in_err-form-clause-value
+returns-in_err-form-clause-value c =
     let p = c.args.place in
-    let t = tables c.args.booleans.now c.args.characters.now c.args.integers.now in
+    let t = held c.args.tables.now in
     refused_3 p c.args.slips.now t c.from_residual-in_err-form.result c.in_err-form.field-0.0 c.from_residual-in_err-form.ensures.1
     c.args.a c.args.b c.args.c pick_two c.in_ok-x.x c.in_ok-y.y c.in_ok-z.z c.in_ok-x.ensures.is c.in_ok-y.ensures.is c.in_ok-z.ensures.is
     (c.in_err-form.ensures.is ∙ cross_guarded p t c.args.a c.args.b c.args.c c.in_ok-x.x c.in_ok-y.y c.in_ok-z.z c.in_ok-y.ensures.lawful c.in_ok-z.ensures.lawful c.list_at-rows.result c.list_at-columns.result c.list_at-rows.ensures c.list_at-columns.ensures)
@@ -30,7 +31,7 @@ returns-in_err-form c =
 pub pick_matrix-picked-requires : goal.pick_matrix-picked-requires
 pick_matrix-picked-requires c =
     let p = c.args.place in
-    let t = tables c.args.booleans.now c.args.characters.now c.args.integers.now in
+    let t = held c.args.tables.now in
     let x = c.in_ok-x.x in
     let y = c.in_ok-y.y in
     let z = c.in_ok-z.z in
@@ -52,15 +53,13 @@ pick_matrix-picked-requires c =
       rows_seen = read_below p.width t c.args.b y ly rows er _ (omega (arith, u, c.requires.ample.integers));
       columns_seen = read_below p.width t c.args.c z lz columns ec _ (omega (arith, v, c.requires.ample.integers));
       few = (let r = n.rows in let s = n.columns in search rules);
-      booleans = omega (arith, n.crossings, c.start_of-to.ensures, c.requires.ample.booleans);
-      characters = omega (arith, n.crossings, c.start_of-to.ensures, c.requires.ample.characters);
-      integers = omega (arith, n.crossings, c.start_of-to.ensures, c.requires.ample.integers);
+      within = reach c.args.tables.now c.requires.ample (omega (arith, n.crossings, c.start_of-to.ensures));
     }
 
-pub returns : goal.returns
-returns c =
+pub returns-clause-value : goal.returns-clause-value
+returns-clause-value c =
     let p = c.args.place in
-    let t = tables c.args.booleans.now c.args.characters.now c.args.integers.now in
+    let t = held c.args.tables.now in
     let x = c.in_ok-x.x in
     let y = c.in_ok-y.y in
     let z = c.in_ok-z.z in
@@ -74,4 +73,4 @@ returns c =
     let g = c.in_ok-form.ensures.is in
     made_3 p c.args.slips.now t _ c.answer.result c.args.a c.args.b c.args.c pick_two x y z c.in_ok-x.ensures.is c.in_ok-y.ensures.is c.in_ok-z.ensures.is
     (chosen_made p t _ (cross_at p t c.args.a c.args.b c.args.c x y z ly lz rows columns er ec) form (g ∙ cross_guarded p t c.args.a c.args.b c.args.c x y z ly lz rows columns er ec) _ c.start_of-to.result _ c.pick_matrix-picked.result c.answer.result
-    (cross_outside p t c.args.a c.args.b c.args.c x y z ly lz rows columns er ec form g) (cross_elements p t c.args.a c.args.b c.args.c x y z ly lz rows columns er ec form g c.start_of-from.result c.start_of-from.ensures) c.start_of-to.ensures c.answer.ensures c.pick_matrix-picked.ensures)
+    (cross_outside p t c.args.a c.args.b c.args.c x y z ly lz rows columns er ec form g) (cross_elements p t c.args.a c.args.b c.args.c x y z ly lz rows columns er ec form g c.start_of-from.result c.start_of-from.ensures) c.start_of-to.ensures c.answer.ensures c.pick_matrix-picked.ensures.value)

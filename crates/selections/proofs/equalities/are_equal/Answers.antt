@@ -1,5 +1,6 @@
 use Rattle.std.proofs.Common.{arith}
 use Rattle.meaning.proofs.Rows.{under_all}
+use Rattle.tables.proofs.Reaching.{reach}
 use Rattle.selections.proofs.equalities.are_equal.Goals as goal
 
 pub equal_throughout-requires : goal.equal_throughout-requires
@@ -11,12 +12,8 @@ equal_throughout-requires c =
     let er = c.start_of-right.ensures in
     let few = c.area-many.ensures.small in
     record {
-      scalar_booleans = omega (arith, r, er, c.requires.wide, c.requires.ample.booleans);
-      scalar_characters = omega (arith, r, er, c.requires.wide, c.requires.ample.characters);
-      scalar_integers = omega (arith, r, er, c.requires.wide, c.requires.ample.integers);
-      booleans = omega (arith, l, el, few, c.requires.ample.booleans);
-      characters = omega (arith, l, el, few, c.requires.ample.characters);
-      integers = omega (arith, l, el, few, c.requires.ample.integers);
+      scalar = reach c.args.tables.now c.requires.ample (omega (arith, r, er, c.requires.wide));
+      within = reach c.args.tables.now c.requires.ample (omega (arith, l, el, few));
     }
 
 pub equal_throughout-requires-then-same-2 : goal.equal_throughout-requires-then-same-2
@@ -28,12 +25,8 @@ equal_throughout-requires-then-same-2 c =
     let er = c.start_of-right.ensures in
     let few = c.area.ensures.small in
     record {
-      scalar_booleans = omega (arith, l, el, c.requires.wide, c.requires.ample.booleans);
-      scalar_characters = omega (arith, l, el, c.requires.wide, c.requires.ample.characters);
-      scalar_integers = omega (arith, l, el, c.requires.wide, c.requires.ample.integers);
-      booleans = omega (arith, r, er, few, c.requires.ample.booleans);
-      characters = omega (arith, r, er, few, c.requires.ample.characters);
-      integers = omega (arith, r, er, few, c.requires.ample.integers);
+      scalar = reach c.args.tables.now c.requires.ample (omega (arith, l, el, c.requires.wide));
+      within = reach c.args.tables.now c.requires.ample (omega (arith, r, er, few));
     }
 
 pub equal-requires : goal.equal-requires
@@ -45,10 +38,6 @@ equal-requires c =
     let er = c.start_of-right.ensures in
     let few = c.area-many.ensures.small in
     record {
-      left_booleans = omega (arith, l, el, few, c.requires.ample.booleans);
-      left_characters = omega (arith, l, el, few, c.requires.ample.characters);
-      left_integers = omega (arith, l, el, few, c.requires.ample.integers);
-      right_booleans = omega (arith, r, er, few, c.requires.ample.booleans);
-      right_characters = omega (arith, r, er, few, c.requires.ample.characters);
-      right_integers = omega (arith, r, er, few, c.requires.ample.integers);
+      left = reach c.args.tables.now c.requires.ample (omega (arith, l, el, few));
+      right = reach c.args.tables.now c.requires.ample (omega (arith, r, er, few));
     }

@@ -2,24 +2,25 @@ use Rattle.std.proofs.Common.{ℕ, Bool, List, [], ◌∷◌, Ok, Result, sym, r
 use Rattle.arithmetic.specs.declared.faults.ElementFault.{ElementFault}
 use Rattle.element.specs.Cells.{put}
 use Rattle.meaning.specs.Expressions.{equated, says}
-use Rattle.meaning.specs.States.{tables, FreeAt}
+use Rattle.meaning.specs.States.{FreeAt, tables}
 use Rattle.meaning.proofs.Shells.{refused_2, made_2, left_value}
 use Rattle.selections.proofs.Equating.{equate_at, equal_cells}
+use Rattle.tables.specs.Lent.{held}
 use Rattle.selections.proofs.equalities.equate_row.Goals as goal
 
-pub returns-in_err-form : goal.returns-in_err-form
-returns-in_err-form c =
+pub returns-in_err-form-clause-value : goal.returns-in_err-form-clause-value
+returns-in_err-form-clause-value c =
     let p = c.args.place in
-    let t = tables c.args.booleans.now c.args.characters.now c.args.integers.now in
+    let t = held c.args.tables.now in
     refused_2 p c.args.slips.now t c.from_residual-in_err-form.result c.in_err-form.field-0.0 c.from_residual-in_err-form.ensures.1
     c.args.a c.args.b (equated c.args.op) c.in_ok-x.x c.in_ok-y.y c.in_ok-x.ensures.is c.in_ok-y.ensures.is c.in_err-form.ensures
 
-pub returns : goal.returns
-returns c =
+pub returns-clause-value : goal.returns-clause-value
+returns-clause-value c =
     let p = c.args.place in
-    let bs = c.args.booleans.now in
-    let cs = c.args.characters.now in
-    let is = c.args.integers.now in
+    let bs = c.args.tables.now.booleans.now in
+    let cs = c.args.tables.now.characters.now in
+    let is = c.args.tables.now.integers.now in
     let t = tables bs cs is in
     let x = c.in_ok-x.x in
     let y = c.in_ok-y.y in

@@ -1,9 +1,10 @@
 use Rattle.std.proofs.Common.{◌∙◌, arith}
 use Rattle.meaning.specs.Expressions.{pick}
-use Rattle.meaning.specs.States.{tables}
 use Rattle.meaning.proofs.Shells.{refused_2, made_2}
 use Rattle.meaning.proofs.Rows.{under_all, lawful_small, within_small}
 use Rattle.selections.proofs.Choosing.{chosen_made, read_below, pick_at, pick_guarded, pick_outside, pick_elements, pick_many}
+use Rattle.tables.specs.Lent.{held}
+use Rattle.tables.proofs.Reaching.{reach}
 use Rattle.selections.proofs.indexing.pick_row.Goals as goal
 
 pub list_at-list-requires : goal.list_at-list-requires
@@ -12,10 +13,10 @@ list_at-list-requires c =
     let u = under_all p.width c.args.b p.row c.requires.right in
     omega (arith, u, c.requires.ample.integers, c.requires.wide)
 
-pub returns-in_err-form : goal.returns-in_err-form
-returns-in_err-form c =
+pub returns-in_err-form-clause-value : goal.returns-in_err-form-clause-value
+returns-in_err-form-clause-value c =
     let p = c.args.place in
-    let t = tables c.args.booleans.now c.args.characters.now c.args.integers.now in
+    let t = held c.args.tables.now in
     refused_2 p c.args.slips.now t c.from_residual-in_err-form.result c.in_err-form.field-0.0 c.from_residual-in_err-form.ensures.1
     c.args.a c.args.b pick c.in_ok-x.x c.in_ok-y.y c.in_ok-x.ensures.is c.in_ok-y.ensures.is
     (c.in_err-form.ensures.is ∙ pick_guarded p t c.args.a c.args.b c.in_ok-x.x c.in_ok-y.y c.in_ok-x.ensures.lawful c.in_ok-y.ensures.lawful c.list_at-list.result c.list_at-list.ensures)
@@ -23,7 +24,7 @@ returns-in_err-form c =
 pub pick-picked-requires : goal.pick-picked-requires
 pick-picked-requires c =
     let p = c.args.place in
-    let t = tables c.args.booleans.now c.args.characters.now c.args.integers.now in
+    let t = held c.args.tables.now in
     let x = c.in_ok-x.x in
     let y = c.in_ok-y.y in
     let lx = c.in_ok-x.ensures.lawful in
@@ -38,15 +39,13 @@ pick-picked-requires c =
       below = omega (arith, l, f.columns, c.start_of-from.ensures, c.start_of-to.ensures);
       indices = read_below p.width t c.args.b y ly c.list_at-list.result c.list_at-list.ensures _ (omega (arith, r, c.start_of-to.ensures));
       seen = read_below p.width t c.args.b y ly c.list_at-list.result c.list_at-list.ensures _ (omega (arith, r, c.requires.ample.integers));
-      booleans = omega (arith, n, s.columns, c.start_of-to.ensures, c.requires.ample.booleans);
-      characters = omega (arith, n, s.columns, c.start_of-to.ensures, c.requires.ample.characters);
-      integers = omega (arith, n, s.columns, c.start_of-to.ensures, c.requires.ample.integers);
+      within = reach c.args.tables.now c.requires.ample (omega (arith, n, s.columns, c.start_of-to.ensures));
     }
 
-pub returns : goal.returns
-returns c =
+pub returns-clause-value : goal.returns-clause-value
+returns-clause-value c =
     let p = c.args.place in
-    let t = tables c.args.booleans.now c.args.characters.now c.args.integers.now in
+    let t = held c.args.tables.now in
     let x = c.in_ok-x.x in
     let y = c.in_ok-y.y in
     let lx = c.in_ok-x.ensures.lawful in
@@ -57,4 +56,4 @@ returns c =
     let g = c.in_ok-form.ensures.is in
     made_2 p c.args.slips.now t _ c.answer.result c.args.a c.args.b pick x y c.in_ok-x.ensures.is c.in_ok-y.ensures.is
     (chosen_made p t _ (pick_at p t c.args.a c.args.b x y lx ly list el) form (g ∙ pick_guarded p t c.args.a c.args.b x y lx ly list el) _ c.start_of-to.result _ c.pick-picked.result c.answer.result
-    (pick_outside p t c.args.a c.args.b x y lx ly list el form g) (pick_elements p t c.args.a c.args.b x y lx ly list el form g c.start_of-from.result c.start_of-from.ensures) c.start_of-to.ensures c.answer.ensures c.pick-picked.ensures)
+    (pick_outside p t c.args.a c.args.b x y lx ly list el form g) (pick_elements p t c.args.a c.args.b x y lx ly list el form g c.start_of-from.result c.start_of-from.ensures) c.start_of-to.ensures c.answer.ensures c.pick-picked.ensures.value)

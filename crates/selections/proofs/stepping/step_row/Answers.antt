@@ -1,10 +1,12 @@
 use Rattle.std.proofs.Common.{sym, refl, ◌∙◌, arith, rules}
 use Rattle.meaning.specs.Expressions.{stepped_by}
-use Rattle.meaning.specs.States.{tables, FreeAt}
+use Rattle.meaning.specs.States.{FreeAt}
 use Rattle.meaning.proofs.Shells.{refused_2, made_2, left_value}
 use Rattle.meaning.proofs.Rows.{under_all, within_small}
 use Rattle.selections.proofs.Choosing.{read_below}
 use Rattle.selections.proofs.Striding.{step_at, step_guarded, step_some, step_many, step_written}
+use Rattle.tables.specs.Lent.{held}
+use Rattle.tables.proofs.Reaching.{reach}
 use Rattle.selections.proofs.stepping.step_row.Goals as goal
 
 pub list_at-list-requires : goal.list_at-list-requires
@@ -19,10 +21,10 @@ step_at-step-requires c =
     let u = under_all p.width c.args.b p.row c.requires.right in
     omega (arith, u, c.start_of.ensures, c.requires.ample.integers, c.requires.wide)
 
-pub returns-in_err-form : goal.returns-in_err-form
-returns-in_err-form c =
+pub returns-in_err-form-clause-value : goal.returns-in_err-form-clause-value
+returns-in_err-form-clause-value c =
     let p = c.args.place in
-    let t = tables c.args.booleans.now c.args.characters.now c.args.integers.now in
+    let t = held c.args.tables.now in
     refused_2 p c.args.slips.now t c.from_residual-in_err-form.result c.in_err-form.field-0.0 c.from_residual-in_err-form.ensures.1
     c.args.a c.args.b stepped_by c.in_ok-x.x c.in_ok-y.y c.in_ok-x.ensures.is c.in_ok-y.ensures.is
     (c.in_err-form.ensures.is ∙ step_guarded p t c.args.a c.args.b c.in_ok-x.x c.in_ok-y.y c.in_ok-x.ensures.lawful c.in_ok-y.ensures.lawful c.list_at-list.result c.list_at-list.ensures c.start_of.result c.step_at-step.result c.start_of.ensures c.step_at-step.ensures.is)
@@ -30,7 +32,7 @@ returns-in_err-form c =
 pub write_steps-requires : goal.write_steps-requires
 write_steps-requires c =
     let p = c.args.place in
-    let t = tables c.args.booleans.now c.args.characters.now c.args.integers.now in
+    let t = held c.args.tables.now in
     let x = c.in_ok-x.x in
     let y = c.in_ok-y.y in
     let lx = c.in_ok-x.ensures.lawful in
@@ -51,15 +53,13 @@ write_steps-requires c =
       small = c.step_at-step.ensures.small;
       below = read_below p.width t c.args.a x lx list el _ (omega (arith, u, c.start_of-to.ensures));
       near = search rules;
-      booleans = omega (arith, m, s.columns, c.start_of-to.ensures, c.requires.ample.booleans);
-      characters = omega (arith, m, s.columns, c.start_of-to.ensures, c.requires.ample.characters);
-      integers = omega (arith, m, s.columns, c.start_of-to.ensures, c.requires.ample.integers);
+      within = reach c.args.tables.now c.requires.ample (omega (arith, m, s.columns, c.start_of-to.ensures));
     }
 
-pub returns : goal.returns
-returns c =
+pub returns-clause-value : goal.returns-clause-value
+returns-clause-value c =
     let p = c.args.place in
-    let t = tables c.args.booleans.now c.args.characters.now c.args.integers.now in
+    let t = held c.args.tables.now in
     let x = c.in_ok-x.x in
     let y = c.in_ok-y.y in
     let lx = c.in_ok-x.ensures.lawful in
@@ -74,4 +74,4 @@ returns c =
     let g = c.in_ok-form.ensures.is in
     made_2 p c.args.slips.now t _ _ c.args.a c.args.b stepped_by x y c.in_ok-x.ensures.is c.in_ok-y.ensures.is
     (left_value p p.row (FreeAt p.width p.row) t _ (step_at p t c.args.a c.args.b x y lx ly list el n step en es) form (sym (g ∙ step_guarded p t c.args.a c.args.b x y lx ly list el n step en es)) _ refl refl
-    (c.write_steps.ensures ∙ step_written p t c.args.a c.args.b x y lx ly list el n step en es form g c.start_of-to.result c.start_of-to.ensures))
+    (c.write_steps.ensures.value ∙ step_written p t c.args.a c.args.b x y lx ly list el n step en es form g c.start_of-to.result c.start_of-to.ensures))

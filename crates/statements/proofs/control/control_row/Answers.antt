@@ -14,8 +14,8 @@ reopen-requires c =
       ample = c.requires.ample;
     }
 
-pub returns-in-Continue : goal.returns-in-Continue
-returns-in-Continue c s =
+pub returns-in-Continue-clause-value : goal.returns-in-Continue-clause-value
+returns-in-Continue-clause-value c s =
     let g = c.args in
     turns_back g.lines.now g.target g.control c.in-Continue.is g.place (holding s g.slips.now (tables g.booleans.now g.characters.now g.integers.now))
-    (step c.reopen.result (holding s c.reopen.new.slips (tables c.reopen.new.booleans c.reopen.new.characters c.reopen.new.integers))) _ c.requires.ready (c.reopen.ensures s)
+    (step c.reopen.result (holding s c.reopen.new.slips (tables c.reopen.new.tables.booleans.now c.reopen.new.tables.characters.now c.reopen.new.tables.integers.now))) _ c.requires.ready (c.reopen.ensures.value s)

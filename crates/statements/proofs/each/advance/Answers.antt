@@ -7,6 +7,7 @@ use Rattle.meaning.specs.States.{Tables, tables, table_of, slip_of}
 use Rattle.meaning.specs.Works.{Ample}
 use Rattle.meaning.proofs.Rows.{under_all}
 use Rattle.statements.proofs.Ranging.{ranged_wide, element_below, each_stuck, each_disordered, each_over, each_takes}
+use Rattle.tables.proofs.Reaching.{reach}
 use Rattle.statements.proofs.each.advance.Goals as goal
 
 -- row i is not behind the row at work
@@ -18,8 +19,8 @@ long_enough p a t h u Boolean = omega (arith, h.booleans)
 long_enough p a t h u Character = omega (arith, h.characters)
 long_enough p a t h u Integer = omega (arith, h.integers)
 
-pub returns-then-not-is_ranged : goal.returns-then-not-is_ranged
-returns-then-not-is_ranged c s =
+pub returns-then-not-is_ranged-clause-value : goal.returns-then-not-is_ranged-clause-value
+returns-then-not-is_ranged-clause-value c s =
     let g = c.args in
     each_stuck g.place s g.slips.now (tables g.booleans.now g.characters.now g.integers.now) g.i g.a g.end g.n c.in_ok-x.x c.in_ok-x.ensures.is c.fault.result c.fault.ensures c.if-not-is_ranged.ensures
 
@@ -30,14 +31,14 @@ list_at-list-requires c =
     let u = under_all W c.args.a c.args.place.row (omega arith) in
     omega (arith, wide, u, c.requires.ample.integers)
 
-pub returns-then-not-is_orderly : goal.returns-then-not-is_orderly
-returns-then-not-is_orderly c s =
+pub returns-then-not-is_orderly-clause-value : goal.returns-then-not-is_orderly-clause-value
+returns-then-not-is_orderly-clause-value c s =
     let g = c.args in
     each_disordered g.place s g.slips.now (tables g.booleans.now g.characters.now g.integers.now) g.i g.a g.end g.n c.in_ok-x.x c.in_ok-x.ensures.is
     c.in_ok-x.ensures.lawful c.if-not-is_ranged.ensures c.list_at-list.result c.list_at-list.ensures c.fault-then-not-is_orderly.result c.fault-then-not-is_orderly.ensures c.if-not-is_orderly.ensures
 
-pub returns-then-n-count : goal.returns-then-n-count
-returns-then-n-count c s =
+pub returns-then-n-count-clause-value : goal.returns-then-n-count-clause-value
+returns-then-n-count-clause-value c s =
     let g = c.args in
     each_over g.place s g.slips.now (tables g.booleans.now g.characters.now g.integers.now) g.i g.a g.end g.n c.in_ok-x.x c.in_ok-x.ensures.is
     c.in_ok-x.ensures.lawful c.if-not-is_ranged.ensures c.list_at-list.result c.list_at-list.ensures c.if-not-is_orderly.ensures
@@ -54,13 +55,11 @@ put_element-requires c =
     let last = room_at W g.i g.place.row c.requires.upto in
     record {
       below = element_below W g.integers.now g.a g.n c.in_ok-x.x c.in_ok-x.ensures.lawful c.list_at-list.result c.list_at-list.ensures c.start_of-to.result lt (omega (arith, u, start));
-      booleans = omega (arith, wide, last, start, c.requires.ample.booleans);
-      characters = omega (arith, wide, last, start, c.requires.ample.characters);
-      integers = omega (arith, wide, last, start, c.requires.ample.integers);
+      within = reach c.args.tables.now c.requires.ample (omega (arith, wide, last, start));
     }
 
-pub returns : goal.returns
-returns c s =
+pub returns-clause-value : goal.returns-clause-value
+returns-clause-value c s =
     let g = c.args in
     let W = g.place.width in
     let lt = subst (λ (m : ℕ). g.n < m) c.count.ensures c.if-n-count.false in
@@ -68,4 +67,4 @@ returns c s =
     let t = tables g.booleans.now g.characters.now g.integers.now in
     each_takes g.place s g.slips.now t g.i g.a g.end g.n c.in_ok-x.x c.in_ok-x.ensures.is
     c.in_ok-x.ensures.lawful c.if-not-is_ranged.ensures c.list_at-list.result c.list_at-list.ensures c.if-not-is_orderly.ensures
-    lt (long_enough g.place g.a t c.requires.ample u) c.start_of-to.result c.start_of-to.ensures _ (ap (set g.slips.now g.i) (c.new.ensures ∙ ap (λ (f : Layout). slip_of f g.n) c.scalar.ensures)) _ c.put_element.ensures
+    lt (long_enough g.place g.a t c.requires.ample u) c.start_of-to.result c.start_of-to.ensures _ (ap (set g.slips.now g.i) (c.new.ensures ∙ ap (λ (f : Layout). slip_of f g.n) c.scalar.ensures)) _ c.put_element.ensures.value

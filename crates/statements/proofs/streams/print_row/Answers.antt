@@ -2,6 +2,7 @@ use Rattle.std.proofs.Common.{arith}
 use Rattle.meaning.specs.States.{tables}
 use Rattle.meaning.proofs.Rows.{lawful_fixed, lawful_small, under_all}
 use Rattle.statements.proofs.Flowing.{print_stuck, print_some, print_none}
+use Rattle.tables.proofs.Reaching.{reach}
 use Rattle.statements.proofs.streams.print_row.Goals as goal
 
 pub returns-then-same : goal.returns-then-same
@@ -27,9 +28,7 @@ print-requires c =
       rows = omega (arith, small.rows, c.requires.width);
       columns = omega (arith, small.columns, c.requires.width);
       place = c.requires.room;
-      booleans = omega (arith, small.elements, u, start, c.requires.ample.booleans);
-      characters = omega (arith, small.elements, u, start, c.requires.ample.characters);
-      integers = omega (arith, small.elements, u, start, c.requires.ample.integers);
+      within = reach c.args.tables.now c.requires.ample (omega (arith, small.elements, u, start));
     }
 
 pub returns-in-Some : goal.returns-in-Some
