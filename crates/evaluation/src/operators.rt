@@ -56,7 +56,11 @@ pub fn infix_row(
 {
     match op {
         Infix::Arithmetic(op) => calculate_row(place, op, a, b, slips, tables.integers),
-        Infix::Order(op) => compare_row(place, op, a, b, slips, tables.integers, tables.booleans),
+        Infix::Order(op) => {
+            let integers = &mut *tables.integers;
+            let booleans = &mut *tables.booleans;
+            compare_row(place, op, a, b, slips, integers, booleans)
+        }
         Infix::Logic(op) => decide_row(place, op, a, b, slips, tables.booleans),
         Infix::Equality(op) => equate_row(place, op, a, b, slips, tables),
         Infix::Join => join_row(place, a, b, slips, tables),

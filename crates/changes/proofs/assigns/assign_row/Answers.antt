@@ -1,3 +1,4 @@
+use Rattle.std.proofs.Common.{rules}
 use Rattle.std.proofs.lemmas.Result.{IfOk-from_err}
 use Rattle.meaning.specs.Changes.{assigned}
 use Rattle.changes.proofs.Filling.{filled_2}
@@ -17,6 +18,7 @@ returns-in_err-form c =
       filled = filled_2 p a.v a.slips.now t t r a.v a.a assigned x y c.in_ok-x.ensures.is c.in_ok-y.ensures.is
           (assign_refused p t a.v a.a x y c.in_ok-y.ensures.lawful r c.in_err-form.field-0.0 c.from_residual-in_err-form.ensures.1 c.in_err-form.ensures.is);
       within = IfOk-from_err r _ c.from_residual-in_err-form.ensures.0;
+      lent = search rules;
     }
 
 pub write_value-requires : goal.write_value-requires
@@ -35,7 +37,7 @@ returns c =
     let a = c.args in
     let p = a.place in
     let t = held a.tables.now in
-    let u = tables c.write_value.new.tables.booleans.now c.write_value.new.tables.characters.now c.write_value.new.tables.integers.now in
+    let u = held c.write_value.new.tables in
     let x = c.in_ok-x.x in
     let y = c.in_ok-y.y in
     let form = c.in_ok-form.form in
@@ -43,4 +45,5 @@ returns c =
       filled = filled_2 p a.v a.slips.now t u _ a.v a.a assigned x y c.in_ok-x.ensures.is c.in_ok-y.ensures.is
           (assign_filled p t a.v a.a x y c.in_ok-y.ensures.lawful form c.in_ok-form.ensures.is c.in_ok-x.ensures.lawful u c.write_value.ensures.value);
       within = c.in_ok-form.ensures.within;
+      lent = search rules;
     }

@@ -5,6 +5,7 @@ use Rattle.changes.proofs.Reading.{next_cell, one_cell}
 use Rattle.changes.proofs.Taking.{taken_list}
 use Rattle.changes.proofs.Assigning.{given_copy, given_spread, given_unfold, unfold_count}
 use Rattle.tables.specs.Lent.{held}
+use Rattle.tables.proofs.Reaching.{reach}
 use Rattle.changes.proofs.assigns.write_value.Goals as goal
 
 pub copy_down-requires : goal.copy_down-requires
@@ -17,7 +18,7 @@ copy_down-requires c =
     let m = c.requires.ample in
     let f = c.start_of-from.ensures in
     let t = c.start_of-to.ensures in
-    record { above = omega (arith, l, n, f, t); within = record { booleans = omega (arith, u, n, f, m.booleans); characters = omega (arith, u, n, f, m.characters); integers = omega (arith, u, n, f, m.integers) } }
+    record { above = omega (arith, l, n, f, t); within = reach a.tables.now m (omega (arith, u, n, f)) }
 
 pub spread-requires : goal.spread-requires
 spread-requires c =
@@ -32,14 +33,8 @@ spread-requires c =
     let s = sym c.if-same-2.ensures in
     let o = one_cell p.width a.a p.row (p.row * p.width + p.width) a.y c.requires.before c.requires.given.value s (omega arith) in
     record {
-      from_booleans = omega (arith, o, f, m.booleans);
-      from_characters = omega (arith, o, f, m.characters);
-      from_integers = omega (arith, o, f, m.integers);
-      within = record {
-        booleans = omega (arith, l, u, n, t, m.booleans);
-        characters = omega (arith, l, u, n, t, m.characters);
-        integers = omega (arith, l, u, n, t, m.integers);
-      };
+      from = reach a.tables.now m (omega (arith, o, f));
+      within = reach a.tables.now m (omega (arith, l, u, n, t));
     }
 
 pub unfold_interval-requires : goal.unfold_interval-requires
@@ -63,7 +58,7 @@ returns-then-same-clause-value c =
     let a = c.args in
     let p = a.place in
     let t = held a.tables.now in
-    let u = tables c.copy_down.new.self.booleans.now c.copy_down.new.self.characters.now c.copy_down.new.self.integers.now in
+    let u = held c.copy_down.new.tables in
     given_copy p.width t a.v a.a a.x a.y c.requires.given c.start_of-from.result c.start_of-to.result c.area-n.result c.start_of-from.ensures c.start_of-to.ensures c.area-n.ensures.value u (sym c.if-same.ensures) c.copy_down.ensures.value
 
 pub returns-then-same-2-clause-value : goal.returns-then-same-2-clause-value
@@ -71,7 +66,7 @@ returns-then-same-2-clause-value c =
     let a = c.args in
     let p = a.place in
     let t = held a.tables.now in
-    let u = tables c.spread.new.self.booleans.now c.spread.new.self.characters.now c.spread.new.self.integers.now in
+    let u = held c.spread.new.self in
     given_spread p.width t a.v a.a a.x a.y c.requires.given c.start_of-from.result c.start_of-to.result c.area-n.result c.start_of-from.ensures c.start_of-to.ensures c.area-n.ensures.value u (sym c.if-same.ensures) (sym c.if-same-2.ensures) c.spread.ensures.value
 
 pub returns-else-same-2-clause-value : goal.returns-else-same-2-clause-value
@@ -79,4 +74,4 @@ returns-else-same-2-clause-value c =
     let a = c.args in
     let p = a.place in
     let t = held a.tables.now in
-    given_unfold p.width t a.v a.a a.x a.y c.requires.given c.start_of-from.result c.start_of-to.result c.area-n.result c.start_of-from.ensures c.start_of-to.ensures c.area-n.ensures.value (sym c.if-same.ensures) (sym c.if-same-2.ensures) c.unfold_interval.new.tables.integers.now c.unfold_interval.ensures
+    given_unfold p.width t a.v a.a a.x a.y c.requires.given c.start_of-from.result c.start_of-to.result c.area-n.result c.start_of-from.ensures c.start_of-to.ensures c.area-n.ensures.value (sym c.if-same.ensures) (sym c.if-same-2.ensures) c.unfold_interval.new.integers c.unfold_interval.ensures

@@ -1,3 +1,4 @@
+use Rattle.std.proofs.Common.{rules}
 use Rattle.std.proofs.lemmas.Result.{IfOk-from_err}
 use Rattle.meaning.specs.Changes.{declared}
 use Rattle.changes.proofs.Filling.{filled_1}
@@ -16,6 +17,7 @@ returns-in_err-form c =
       filled = filled_1 p p.row a.slips.now t t r a.a (declared a.w) y c.in_ok-y.ensures.is
           (declare_refused p t a.w a.a y c.in_ok-y.ensures.lawful r c.in_err-form.field-0.0 c.from_residual-in_err-form.ensures.1 c.in_err-form.ensures.is);
       within = IfOk-from_err r _ c.from_residual-in_err-form.ensures.0;
+      lent = search rules;
     }
 
 pub write_beginning-requires : goal.write_beginning-requires
@@ -33,11 +35,12 @@ returns c =
     let a = c.args in
     let p = a.place in
     let t = held a.tables.now in
-    let u = tables c.write_beginning.new.tables.booleans.now c.write_beginning.new.tables.characters.now c.write_beginning.new.tables.integers.now in
+    let u = held c.write_beginning.new.tables in
     let y = c.in_ok-y.y in
     let form = c.in_ok-form.form in
     record {
       filled = filled_1 p p.row a.slips.now t u _ a.a (declared a.w) y c.in_ok-y.ensures.is
           (declare_filled p t a.w a.a y c.in_ok-y.ensures.lawful form c.in_ok-form.ensures.is u c.write_beginning.ensures.value);
       within = c.in_ok-form.ensures.within;
+      lent = search rules;
     }

@@ -4,6 +4,7 @@ use Rattle.changes.proofs.Reading.{next_cell, one_cell}
 use Rattle.changes.proofs.Taking.{taken_list}
 use Rattle.changes.proofs.Declaring.{begun_resize, begun_spread, begun_unfold, begun_few}
 use Rattle.tables.specs.Lent.{held}
+use Rattle.tables.proofs.Reaching.{reach}
 use Rattle.changes.proofs.declares.write_beginning.Goals as goal
 
 pub resize_matrix-requires : goal.resize_matrix-requires
@@ -16,7 +17,7 @@ resize_matrix-requires c =
     let m = c.requires.ample in
     let f = c.start_of-from.ensures in
     let t = c.start_of-to.ensures in
-    record { below = omega (arith, u, n, f, t); within = record { booleans = omega (arith, s, t, m.booleans); characters = omega (arith, s, t, m.characters); integers = omega (arith, s, t, m.integers) } }
+    record { below = omega (arith, u, n, f, t); within = reach a.tables.now m (omega (arith, s, t)) }
 
 pub spread-requires : goal.spread-requires
 spread-requires c =
@@ -29,14 +30,8 @@ spread-requires c =
     let s = sym c.if-same-2.ensures in
     let o = one_cell p.width a.a p.row (p.row * p.width + p.width) a.y c.requires.before c.requires.begun.value s (omega arith) in
     record {
-      from_booleans = omega (arith, o, f, m.booleans);
-      from_characters = omega (arith, o, f, m.characters);
-      from_integers = omega (arith, o, f, m.integers);
-      within = record {
-        booleans = omega (arith, n, t, m.booleans);
-        characters = omega (arith, n, t, m.characters);
-        integers = omega (arith, n, t, m.integers);
-      };
+      from = reach a.tables.now m (omega (arith, o, f));
+      within = reach a.tables.now m (omega (arith, n, t));
     }
 
 pub unfold_padded-requires : goal.unfold_padded-requires
@@ -62,7 +57,7 @@ returns-then-same-clause-value c =
     let a = c.args in
     let p = a.place in
     let t = held a.tables.now in
-    let u = tables c.resize_matrix.new.self.booleans.now c.resize_matrix.new.self.characters.now c.resize_matrix.new.self.integers.now in
+    let u = held c.resize_matrix.new.self in
     begun_resize p.width t a.w a.a p.row a.y a.form c.requires.begun c.start_of-from.result c.start_of-to.result c.start_of-from.ensures c.start_of-to.ensures u (sym c.if-same.ensures) c.resize_matrix.ensures.value
 
 pub returns-then-same-2-clause-value : goal.returns-then-same-2-clause-value
@@ -70,7 +65,7 @@ returns-then-same-2-clause-value c =
     let a = c.args in
     let p = a.place in
     let t = held a.tables.now in
-    let u = tables c.spread.new.self.booleans.now c.spread.new.self.characters.now c.spread.new.self.integers.now in
+    let u = held c.spread.new.self in
     begun_spread p.width t a.w a.a p.row a.y a.form c.requires.begun c.start_of-from.result c.start_of-to.result c.start_of-from.ensures c.start_of-to.ensures u (sym c.if-same.ensures) (sym c.if-same-2.ensures) c.spread.ensures.value
 
 pub returns-else-same-2-clause-value : goal.returns-else-same-2-clause-value
@@ -78,4 +73,4 @@ returns-else-same-2-clause-value c =
     let a = c.args in
     let p = a.place in
     let t = held a.tables.now in
-    begun_unfold p.width t a.w a.a p.row a.y a.form c.requires.begun c.start_of-from.result c.start_of-to.result c.start_of-from.ensures c.start_of-to.ensures (sym c.if-same.ensures) (sym c.if-same-2.ensures) c.unfold_padded.new.tables.integers.now c.unfold_padded.ensures
+    begun_unfold p.width t a.w a.a p.row a.y a.form c.requires.begun c.start_of-from.result c.start_of-to.result c.start_of-from.ensures c.start_of-to.ensures (sym c.if-same.ensures) (sym c.if-same-2.ensures) c.unfold_padded.new.integers c.unfold_padded.ensures

@@ -1,10 +1,11 @@
-use Rattle.std.proofs.Common.{length}
+use Rattle.std.proofs.Common.{arith, ◌+◌, ◌*◌, rules, length}
 use Rattle.std.proofs.lemmas.Result.{IfOk-from_err}
 use Rattle.meaning.specs.Changes.{stored_at}
 use Rattle.changes.proofs.Filling.{filled_3, indexed_within}
 use Rattle.changes.proofs.Reading.{next_cell}
 use Rattle.changes.proofs.Storing.{ruled, by_list, store_refused, store_filled, store_above, store_under, store_seen, store_fits}
 use Rattle.tables.specs.Lent.{held}
+use Rattle.tables.proofs.Reaching.{reach}
 use Rattle.changes.proofs.stores.store_row.Goals as goal
 
 pub returns-in_err-form : goal.returns-in_err-form
@@ -20,6 +21,7 @@ returns-in_err-form c =
       filled = filled_3 p a.v a.slips.now t t r a.v a.b a.c stored_at x y z c.in_ok-x.ensures.is c.in_ok-y.ensures.is c.in_ok-z.ensures.is
           (store_refused p t a.v a.b a.c x y z c.in_ok-y.ensures.lawful r c.in_err-form.field-0.0 c.from_residual-in_err-form.ensures.1 c.in_err-form.ensures.is);
       within = IfOk-from_err r _ c.from_residual-in_err-form.ensures.0;
+      lent = search rules;
     }
 
 pub list_at-index-requires : goal.list_at-index-requires
@@ -54,11 +56,7 @@ store-stored-requires c =
       above = store_above p t a.v a.b a.c x y z ly form g lx lz to.result to.ensures ix.result ix.ensures vs.result vs.ensures c.requires.index c.requires.value c.requires.under_index c.requires.under_value;
       indices = store_under p t a.v a.b a.c x y z ly form g lx lz to.result to.ensures ix.result ix.ensures vs.result vs.ensures c.requires.index c.requires.value c.requires.under_index c.requires.under_value;
       seen = store_seen p t a.v a.b a.c x y z ly form g lx lz to.result to.ensures ix.result ix.ensures vs.result vs.ensures c.requires.index c.requires.value c.requires.under_index c.requires.under_value (length a.tables.now.integers.now) c.requires.ample.integers;
-      within = record {
-        booleans = store_fits p t a.v a.b a.c x y z ly form g lx lz to.result to.ensures ix.result ix.ensures vs.result vs.ensures c.requires.index c.requires.value c.requires.under_index c.requires.under_value (length a.tables.now.booleans.now) c.requires.ample.booleans;
-        characters = store_fits p t a.v a.b a.c x y z ly form g lx lz to.result to.ensures ix.result ix.ensures vs.result vs.ensures c.requires.index c.requires.value c.requires.under_index c.requires.under_value (length a.tables.now.characters.now) c.requires.ample.characters;
-        integers = store_fits p t a.v a.b a.c x y z ly form g lx lz to.result to.ensures ix.result ix.ensures vs.result vs.ensures c.requires.index c.requires.value c.requires.under_index c.requires.under_value (length a.tables.now.integers.now) c.requires.ample.integers;
-      };
+      within = reach a.tables.now c.requires.ample (store_fits p t a.v a.b a.c x y z ly form g lx lz to.result to.ensures ix.result ix.ensures vs.result vs.ensures c.requires.index c.requires.value c.requires.under_index c.requires.under_value (p.row * p.width + p.width) (omega arith));
     }
 
 pub returns : goal.returns
@@ -66,7 +64,7 @@ returns c =
     let a = c.args in
     let p = a.place in
     let t = held a.tables.now in
-    let u = tables c.store-stored.new.self.booleans.now c.store-stored.new.self.characters.now c.store-stored.new.self.integers.now in
+    let u = held c.store-stored.new.self in
     let x = c.in_ok-x.x in
     let y = c.in_ok-y.y in
     let z = c.in_ok-z.z in
@@ -83,4 +81,5 @@ returns c =
       filled = filled_3 p a.v a.slips.now t u c.indexed.result a.v a.b a.c stored_at x y z c.in_ok-x.ensures.is c.in_ok-y.ensures.is c.in_ok-z.ensures.is
           (store_filled p t a.v a.b a.c x y z ly form g lx lz to.result to.ensures ix.result ix.ensures vs.result vs.ensures u s c.indexed.result c.store-stored.ensures.value c.indexed.ensures);
       within = indexed_within p form s c.indexed.result c.indexed.ensures c.in_ok-form.ensures.within;
+      lent = search rules;
     }

@@ -18,4 +18,4 @@ pub returns-in-Continue-clause-value : goal.returns-in-Continue-clause-value
 returns-in-Continue-clause-value c s =
     let g = c.args in
     turns_back g.lines.now g.target g.control c.in-Continue.is g.place (holding s g.slips.now (tables g.booleans.now g.characters.now g.integers.now))
-    (step c.reopen.result (holding s c.reopen.new.slips (tables c.reopen.new.tables.booleans.now c.reopen.new.tables.characters.now c.reopen.new.tables.integers.now))) _ c.requires.ready (c.reopen.ensures.value s)
+    (step c.reopen.result (holding s c.reopen.new.slips (held c.reopen.new.tables))) _ c.requires.ready (c.reopen.ensures.value s)

@@ -27,4 +27,4 @@ returns-clause-value g c s =
     let a = c.args in
     read_value a.place s a.slips.now (held a.tables.now) a.i c.in_ok-x.x c.in_ok-x.ensures.is a.taken.now a.stream.now (g.S.Source.waiting a.source.now)
     c.if-not-same.ensures c.start_of-to.result c.start_of-to.ensures
-    c.read.new.taken c.read.result (tables c.read.new.self.booleans.now c.read.new.self.characters.now c.read.new.self.integers.now) (g.S.Source.waiting c.read.new.source) c.read.ensures.written c.read.ensures.told c.read.ensures.waits c.read.ensures.took
+    c.read.new.taken c.read.result (held c.read.new.self) (g.S.Source.waiting c.read.new.source) c.read.ensures.written c.read.ensures.told c.read.ensures.waits c.read.ensures.took
