@@ -33,7 +33,7 @@ pub fn change_row<S: Source>(
     requires row { place.row < length slips.old }
     requires room { printed.old ≤ length output.old }
     requires ample { Holds place tables.old }
-    ensures does { step result (state_of taken.new stream.new slips.new tables.new.booleans.now tables.new.characters.now tables.new.integers.now (S.waiting source.new) output.new printed.new) ≡ changing place head change (state_of taken.old stream.old slips.old tables.old.booleans.now tables.old.characters.now tables.old.integers.now (S.waiting source.old) output.old printed.old) }
+    ensures does { step result (state_of taken.new stream.new slips.new (held tables.new) (S.waiting source.new) output.new printed.new) ≡ changing place head change (state_of taken.old stream.old slips.old (held tables.old) (S.waiting source.old) output.old printed.old) }
     ensures room { printed.new ≤ length output.new }
     ensures lent { Kept tables.old tables.new }
 {

@@ -67,7 +67,7 @@ pub fn work<S: Source>(
     requires row { place.row < length slips.old }
     requires room { printed.old ≤ length output.old }
     requires ample { Holds place tables.old }
-    ensures acts { Acts place.width place.row place.line (state_of taken.old stream.old slips.old tables.old.booleans.now tables.old.characters.now tables.old.integers.now (S.waiting source.old) output.old printed.old) head lines.now (at lines.now place.row).target (at lines.now place.row).instruction result (state_of taken.new stream.new slips.new tables.new.booleans.now tables.new.characters.now tables.new.integers.now (S.waiting source.new) output.new printed.new) }
+    ensures acts { Acts place.width place.row place.line (state_of taken.old stream.old slips.old (held tables.old) (S.waiting source.old) output.old printed.old) head lines.now (at lines.now place.row).target (at lines.now place.row).instruction result (state_of taken.new stream.new slips.new (held tables.new) (S.waiting source.new) output.new printed.new) }
     ensures room { printed.new ≤ length output.new }
     ensures lent { Kept tables.old tables.new }
 {

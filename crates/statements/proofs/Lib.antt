@@ -1,5 +1,4 @@
 pub mod Settling
-pub mod Whole
 pub mod Checked
 mod Operands
 mod Branching

@@ -78,7 +78,7 @@ pub fn control_row(
     ensures lent { Kept tables.old tables.new }
 {
     match control {
-        Control::If(a, _) | Control::Test(a) => branch(place, a, target, slips, tables.booleans),
+        Control::If(a, _) | Control::Test(a) => branch(place, a, target, slips, tables),
         Control::Else(_) | Control::Break => Ok(After::Row(target as usize + 1)),
         Control::Loop(_) => Ok(After::Row(place.row as usize + 1)),
         Control::Each(a, end) => advance(place, place.row, a, end, 0, slips, tables),

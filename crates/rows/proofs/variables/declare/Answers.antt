@@ -1,9 +1,10 @@
-use Rattle.meaning.specs.States.{tables, holding}
+use Rattle.meaning.specs.States.{holding}
 use Rattle.rows.proofs.Filling.{begins_with}
+use Rattle.tables.specs.Lent.{held}
 use Rattle.rows.proofs.variables.declare.Goals as goal
 
 pub returns-clause-value : goal.returns-clause-value
 returns-clause-value c s =
     let g = c.args in
-    let t = tables g.booleans.now g.characters.now g.integers.now in
+    let t = held g.tables.now in
     begins_with g.place g.w g.start (holding s g.slips.now t) c.begin-declared.result _ c.proceed.result c.note.new.slips c.begin-declared.ensures.filled c.proceed.ensures c.note.ensures

@@ -1,11 +1,12 @@
 use Rattle.meaning.specs.Expressions.{by3}
 use Rattle.meaning.specs.Changes.{stored_at}
-use Rattle.meaning.specs.States.{tables, holding, value_in}
+use Rattle.meaning.specs.States.{holding, value_in}
 use Rattle.rows.proofs.Filling.{refilled}
+use Rattle.tables.specs.Lent.{held}
 use Rattle.rows.proofs.variables.store.Goals as goal
 
 pub returns-clause-value : goal.returns-clause-value
 returns-clause-value c head s =
     let g = c.args in
-    let t = tables g.booleans.now g.characters.now g.integers.now in
+    let t = held g.tables.now in
     refilled g.place g.v (holding s g.slips.now t) (by3 g.place.width (value_in g.place.width g.slips.now t) g.v g.b g.c stored_at) c.store_row-stored.result _ c.proceed.result c.store_row-stored.ensures.filled c.proceed.ensures

@@ -1,12 +1,13 @@
 use Rattle.meaning.specs.Expressions.{by3}
 use Rattle.meaning.specs.Changes.{stored_at_two}
 use Rattle.meaning.specs.Plans.{with}
-use Rattle.meaning.specs.States.{tables, holding, value_in}
+use Rattle.meaning.specs.States.{holding, value_in}
 use Rattle.rows.proofs.Filling.{refilled}
+use Rattle.tables.specs.Lent.{held}
 use Rattle.rows.proofs.variables.store_two.Goals as goal
 
 pub returns-clause-value : goal.returns-clause-value
 returns-clause-value c head s =
     let g = c.args in
-    let t = tables g.booleans.now g.characters.now g.integers.now in
+    let t = held g.tables.now in
     refilled g.place g.v (holding s g.slips.now t) (with (value_in g.place.width g.slips.now t g.v) (λ x. by3 g.place.width (value_in g.place.width g.slips.now t) g.b g.c g.d (stored_at_two x))) c.store_two_row-stored.result _ c.proceed.result c.store_two_row-stored.ensures.filled c.proceed.ensures

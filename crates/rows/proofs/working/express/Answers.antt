@@ -1,14 +1,15 @@
 use Rattle.meaning.specs.Expressions.{evaluated}
-use Rattle.meaning.specs.States.{tables, value_in, holding}
+use Rattle.meaning.specs.States.{value_in, holding}
 use Rattle.meaning.proofs.Within.{evaluated_within}
 use Rattle.statements.proofs.Settling.{settles}
 use Rattle.rows.proofs.Expressing.{told_within}
+use Rattle.tables.specs.Lent.{held}
 use Rattle.rows.proofs.working.express.Goals as goal
 
 pub settle-requires : goal.settle-requires
 settle-requires c =
     let g = c.args in
-    let t = tables g.booleans.now g.characters.now g.integers.now in
+    let t = held g.tables.now in
     let at = value_in g.place.width g.slips.now t in
     record {
       row = c.requires.row;
@@ -18,5 +19,5 @@ settle-requires c =
 pub returns-clause-value : goal.returns-clause-value
 returns-clause-value c s =
     let g = c.args in
-    let t = tables g.booleans.now g.characters.now g.integers.now in
+    let t = held g.tables.now in
     settles g.place (holding s g.slips.now t) (evaluated g.place.width (value_in g.place.width g.slips.now t) g.stream g.expression) c.evaluate-made.result _ c.settle.result c.settle.new.slips c.evaluate-made.ensures.value c.settle.ensures.answer c.settle.ensures.slips

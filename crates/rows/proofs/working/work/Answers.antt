@@ -7,6 +7,7 @@ use Rattle.statements.specs.Ready.{Ready}
 use Rattle.statements.proofs.Checked.{ready}
 use Rattle.rows.proofs.Expressing.{acts_by, says_so}
 use Rattle.rows.proofs.Sheets.{reads_under, reaches}
+use Rattle.tables.specs.Lent.{held}
 use Rattle.rows.proofs.working.work.Goals as goal
 
 pub express-requires-clause-reads : goal.express-requires-clause-reads
@@ -32,11 +33,11 @@ control_row-requires-clause-ready g c =
 pub returns-in-Expression-clause-acts : goal.returns-in-Expression-clause-acts
 returns-in-Expression-clause-acts g c =
     let a = c.args in
-    let here = state_of a.taken.now a.stream.now a.slips.now a.tables.now.booleans.now a.tables.now.characters.now a.tables.now.integers.now (g.S.Source.waiting a.source.now) a.output.now a.printed.now in
+    let here = state_of a.taken.now a.stream.now a.slips.now (held a.tables.now) (g.S.Source.waiting a.source.now) a.output.now a.printed.now in
     acts_by a.place a.head a.lines.now c.line_of-line.result (Expression c.in-Expression.expression) here c.express.result _ c.line_of-line.ensures c.in-Expression.is (c.express.ensures.value here)
 
 pub returns-in-Control-clause-acts : goal.returns-in-Control-clause-acts
 returns-in-Control-clause-acts g c =
     let a = c.args in
-    let here = state_of a.taken.now a.stream.now a.slips.now a.tables.now.booleans.now a.tables.now.characters.now a.tables.now.integers.now (g.S.Source.waiting a.source.now) a.output.now a.printed.now in
+    let here = state_of a.taken.now a.stream.now a.slips.now (held a.tables.now) (g.S.Source.waiting a.source.now) a.output.now a.printed.now in
     acts_by a.place a.head a.lines.now c.line_of-line.result (Control c.in-Control.control) here c.control_row.result _ c.line_of-line.ensures c.in-Control.is (c.control_row.ensures.value here)

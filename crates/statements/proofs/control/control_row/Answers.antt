@@ -1,7 +1,8 @@
 -- An end and a continue read the row that they go back to.
-use Rattle.meaning.specs.States.{tables, holding}
+use Rattle.meaning.specs.States.{holding}
 use Rattle.meaning.specs.Acts.{step}
 use Rattle.statements.proofs.Turning.{reopens, domain_read, turns_back}
+use Rattle.tables.specs.Lent.{held}
 use Rattle.statements.proofs.control.control_row.Goals as goal
 
 pub reopen-requires : goal.reopen-requires
@@ -17,5 +18,5 @@ reopen-requires c =
 pub returns-in-Continue-clause-value : goal.returns-in-Continue-clause-value
 returns-in-Continue-clause-value c s =
     let g = c.args in
-    turns_back g.lines.now g.target g.control c.in-Continue.is g.place (holding s g.slips.now (tables g.booleans.now g.characters.now g.integers.now))
+    turns_back g.lines.now g.target g.control c.in-Continue.is g.place (holding s g.slips.now (held g.tables.now))
     (step c.reopen.result (holding s c.reopen.new.slips (held c.reopen.new.tables))) _ c.requires.ready (c.reopen.ensures.value s)

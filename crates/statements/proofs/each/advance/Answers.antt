@@ -3,11 +3,12 @@ use Rattle.types.specs.declared.kinds.Kind.{Kind}
 use Rattle.types.specs.declared.kinds.Kind.TheVariants.{Boolean, Character, Integer}
 use Rattle.meaning.specs.declared.layouts.Layout.{Layout}
 use Rattle.meaning.specs.declared.places.Place.{Place}
-use Rattle.meaning.specs.States.{Tables, tables, table_of, slip_of}
+use Rattle.meaning.specs.States.{Tables, table_of, slip_of}
 use Rattle.meaning.specs.Works.{Ample}
 use Rattle.meaning.proofs.Rows.{under_all}
 use Rattle.statements.proofs.Ranging.{ranged_wide, element_below, each_stuck, each_disordered, each_over, each_takes}
 use Rattle.tables.proofs.Reaching.{reach}
+use Rattle.tables.specs.Lent.{held}
 use Rattle.statements.proofs.each.advance.Goals as goal
 
 -- row i is not behind the row at work
@@ -22,7 +23,7 @@ long_enough p a t h u Integer = omega (arith, h.integers)
 pub returns-then-not-is_ranged-clause-value : goal.returns-then-not-is_ranged-clause-value
 returns-then-not-is_ranged-clause-value c s =
     let g = c.args in
-    each_stuck g.place s g.slips.now (tables g.booleans.now g.characters.now g.integers.now) g.i g.a g.end g.n c.in_ok-x.x c.in_ok-x.ensures.is c.fault.result c.fault.ensures c.if-not-is_ranged.ensures
+    each_stuck g.place s g.slips.now (held g.tables.now) g.i g.a g.end g.n c.in_ok-x.x c.in_ok-x.ensures.is c.fault.result c.fault.ensures c.if-not-is_ranged.ensures
 
 pub list_at-list-requires : goal.list_at-list-requires
 list_at-list-requires c =
@@ -34,13 +35,13 @@ list_at-list-requires c =
 pub returns-then-not-is_orderly-clause-value : goal.returns-then-not-is_orderly-clause-value
 returns-then-not-is_orderly-clause-value c s =
     let g = c.args in
-    each_disordered g.place s g.slips.now (tables g.booleans.now g.characters.now g.integers.now) g.i g.a g.end g.n c.in_ok-x.x c.in_ok-x.ensures.is
+    each_disordered g.place s g.slips.now (held g.tables.now) g.i g.a g.end g.n c.in_ok-x.x c.in_ok-x.ensures.is
     c.in_ok-x.ensures.lawful c.if-not-is_ranged.ensures c.list_at-list.result c.list_at-list.ensures c.fault-then-not-is_orderly.result c.fault-then-not-is_orderly.ensures c.if-not-is_orderly.ensures
 
 pub returns-then-n-count-clause-value : goal.returns-then-n-count-clause-value
 returns-then-n-count-clause-value c s =
     let g = c.args in
-    each_over g.place s g.slips.now (tables g.booleans.now g.characters.now g.integers.now) g.i g.a g.end g.n c.in_ok-x.x c.in_ok-x.ensures.is
+    each_over g.place s g.slips.now (held g.tables.now) g.i g.a g.end g.n c.in_ok-x.x c.in_ok-x.ensures.is
     c.in_ok-x.ensures.lawful c.if-not-is_ranged.ensures c.list_at-list.result c.list_at-list.ensures c.if-not-is_orderly.ensures
     (subst (λ (m : ℕ). m ≤ g.n) c.count.ensures c.if-n-count.true) _ (ap (set g.slips.now g.i) c.blank.ensures)
 
@@ -54,7 +55,7 @@ put_element-requires c =
     let u = under_all W g.a g.i c.requires.domain in
     let last = room_at W g.i g.place.row c.requires.upto in
     record {
-      below = element_below W g.integers.now g.a g.n c.in_ok-x.x c.in_ok-x.ensures.lawful c.list_at-list.result c.list_at-list.ensures c.start_of-to.result lt (omega (arith, u, start));
+      below = element_below W g.tables.now.integers.now g.a g.n c.in_ok-x.x c.in_ok-x.ensures.lawful c.list_at-list.result c.list_at-list.ensures c.start_of-to.result lt (omega (arith, u, start));
       within = reach c.args.tables.now c.requires.ample (omega (arith, wide, last, start));
     }
 
@@ -64,7 +65,7 @@ returns-clause-value c s =
     let W = g.place.width in
     let lt = subst (λ (m : ℕ). g.n < m) c.count.ensures c.if-n-count.false in
     let u = under_all W g.a g.place.row (omega arith) in
-    let t = tables g.booleans.now g.characters.now g.integers.now in
+    let t = held g.tables.now in
     each_takes g.place s g.slips.now t g.i g.a g.end g.n c.in_ok-x.x c.in_ok-x.ensures.is
     c.in_ok-x.ensures.lawful c.if-not-is_ranged.ensures c.list_at-list.result c.list_at-list.ensures c.if-not-is_orderly.ensures
     lt (long_enough g.place g.a t c.requires.ample u) c.start_of-to.result c.start_of-to.ensures _ (ap (set g.slips.now g.i) (c.new.ensures ∙ ap (λ (f : Layout). slip_of f g.n) c.scalar.ensures)) _ c.put_element.ensures.value

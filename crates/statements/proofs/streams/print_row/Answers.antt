@@ -1,8 +1,8 @@
 use Rattle.std.proofs.Common.{arith}
-use Rattle.meaning.specs.States.{tables}
 use Rattle.meaning.proofs.Rows.{lawful_fixed, lawful_small, under_all}
 use Rattle.statements.proofs.Flowing.{print_stuck, print_some, print_none}
 use Rattle.tables.proofs.Reaching.{reach}
+use Rattle.tables.specs.Lent.{held}
 use Rattle.statements.proofs.streams.print_row.Goals as goal
 
 pub returns-then-same : goal.returns-then-same
@@ -10,7 +10,7 @@ returns-then-same c =
     let g = c.args in
     record {
       row = λ s.
-          print_stuck g.place s g.slips.now (tables g.booleans.now g.characters.now g.integers.now) g.a c.in_ok-x.x c.in_ok-x.ensures.is g.output.now g.printed.now
+          print_stuck g.place s g.slips.now (held g.tables.now) g.a c.in_ok-x.x c.in_ok-x.ensures.is g.output.now g.printed.now
           c.fault.result c.fault.ensures c.if-same.ensures;
       room = c.requires.room;
     }
@@ -37,7 +37,7 @@ returns-in-Some c =
     let done = c.in-Some.ensures in
     record {
       row = λ s.
-          print_some g.place s g.slips.now (tables g.booleans.now g.characters.now g.integers.now) g.a c.in_ok-x.x c.in_ok-x.ensures.is g.output.now g.printed.now
+          print_some g.place s g.slips.now (held g.tables.now) g.a c.in_ok-x.x c.in_ok-x.ensures.is g.output.now g.printed.now
           c.if-same.ensures c.start_of-at.result c.start_of-at.ensures c.print.new.output c.in-Some.end done;
       room = omega (arith, done.0, done.1, c.print.auto.output);
     }
@@ -47,7 +47,7 @@ returns-in-None c =
     let g = c.args in
     record {
       row = λ s.
-          print_none g.place s g.slips.now (tables g.booleans.now g.characters.now g.integers.now) g.a c.in_ok-x.x c.in_ok-x.ensures.is g.output.now g.printed.now
+          print_none g.place s g.slips.now (held g.tables.now) g.a c.in_ok-x.x c.in_ok-x.ensures.is g.output.now g.printed.now
           c.if-same.ensures c.start_of-at.result c.start_of-at.ensures c.print.new.output c.in-None.ensures;
       room = omega (arith, c.requires.room, c.print.auto.output);
     }
