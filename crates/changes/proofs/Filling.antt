@@ -1,4 +1,5 @@
 -- What a statement that fills the cells of a variable owes: its operands, its tests, its elements.
+use Rattle.expressions.specs.Answers.{answered}
 use Rattle.std.proofs.Common.{◌≡◌, ℕ, ◌*◌, true, List, [], IsErrAnd, IfOk, Some, None, Ok, Err, Option, Result, sym, refl, ap, ◌∙◌, subst}
 use Rattle.types.specs.declared.kinds.Kind.{Kind}
 use Rattle.fault.specs.declared.faults.Fault.{Fault}
@@ -12,7 +13,6 @@ use Rattle.meaning.specs.Expressions.{by1, by2, by3}
 use Rattle.meaning.specs.States.{Tables, table_of, placed_in, layout_at, value_from, value_in}
 use Rattle.meaning.specs.Works.{guarded, found, Filled, Unchanged, changed, Chosen}
 use Rattle.meaning.proofs.Shells.{exits, left_refused, left_value, left_outside, there, tests}
-use Rattle.changes.specs.Stores.{indexed}
 
 -- ---- a statement with its operands
 module _ (p : Place) (i : ℕ) (slips : List Slip) (t u : Tables) (r : Result Layout Fault) where
@@ -62,10 +62,10 @@ module _ (p : Place) (i : ℕ) (t u : Tables) (q : Plan) (x : Layout) (h : Ok x 
     written none is w = placed all none is (changed_placed w)
 
     -- the same, where an index may be outside
-    pub chosen : (o : Option ℕ) (s : Result (Unit {0}) Outside) (r : Result Layout Fault) → q.outside ≡ o → q.elements ≡ Ok all → Chosen o t (changed x.kind t to f) s u → r ≡ indexed p x s → Filled p i (outcome p.width q) t r u
-    chosen None s r out is w e = subst (λ (y : Result Layout Fault). Filled p i (outcome p.width q) t y u) (sym (e ∙ ap (indexed p x) w.0)) (written out is w.1)
-    chosen (Some k) s r out is w e = subst (λ (y : Result Layout Fault). Filled p i (outcome p.width q) t y u) (sym (e ∙ ap (indexed p x) w.0)) (left_outside p i Unchanged t u q x (sym h) k out w.1)
+    pub chosen : (o : Option ℕ) (s : Result (Unit {0}) Outside) (r : Result Layout Fault) → q.outside ≡ o → q.elements ≡ Ok all → Chosen o t (changed x.kind t to f) s u → r ≡ answered p x s → Filled p i (outcome p.width q) t r u
+    chosen None s r out is w e = subst (λ (y : Result Layout Fault). Filled p i (outcome p.width q) t y u) (sym (e ∙ ap (answered p x) w.0)) (written out is w.1)
+    chosen (Some k) s r out is w e = subst (λ (y : Result Layout Fault). Filled p i (outcome p.width q) t y u) (sym (e ∙ ap (answered p x) w.0)) (left_outside p i Unchanged t u q x (sym h) k out w.1)
 
-pub indexed_within : (p : Place) (x : Layout) (s : Result (Unit {0}) Outside) (r : Result Layout Fault) → r ≡ indexed p x s → within p.width x.r x.s ≡ true → IfOk r (λ f. within p.width f.r f.s ≡ true)
-indexed_within p x (Ok y) r e h = subst (λ (z : Result Layout Fault). IfOk z (λ f. within p.width f.r f.s ≡ true)) (sym e) h
-indexed_within p x (Err o) r e h = subst (λ (z : Result Layout Fault). IfOk z (λ f. within p.width f.r f.s ≡ true)) (sym e) tt
+pub answered_within : (p : Place) (x : Layout) (s : Result (Unit {0}) Outside) (r : Result Layout Fault) → r ≡ answered p x s → within p.width x.r x.s ≡ true → IfOk r (λ f. within p.width f.r f.s ≡ true)
+answered_within p x (Ok y) r e h = subst (λ (z : Result Layout Fault). IfOk z (λ f. within p.width f.r f.s ≡ true)) (sym e) h
+answered_within p x (Err o) r e h = subst (λ (z : Result Layout Fault). IfOk z (λ f. within p.width f.r f.s ≡ true)) (sym e) tt

@@ -1,4 +1,5 @@
 -- A store whose tests passed: where its cells lie, and that it writes what the rule names.
+use Rattle.expressions.specs.Answers.{answered}
 use Rattle.std.proofs.Common.{◌≡◌, ℕ, ◌+◌, ◌*◌, ◌<◌, ◌≤◌, Bool, true, false, cond, not, ◌&&◌, ◌||◌, eqb, leb, List, get_or, ℤ, pos, IsErrAnd, Some, Ok, Err, Result, sym, refl, ap, ◌∙◌, subst, one-mul, arith}
 use Rattle.std.proofs.lemmas.Bool.{and_parts, eqb-true, leb-true}
 use Rattle.types.specs.declared.kinds.Kind.{Kind}
@@ -26,7 +27,7 @@ use Rattle.meaning.proofs.Shells.{never, tests}
 use Rattle.meaning.proofs.Rows.{lawful_fixed, lawful_small, vector_one, under_all}
 use Rattle.expressions.specs.Lists.{list_at}
 use Rattle.expressions.proofs.Listing.{list_count, list_order, list_elements, list_below}
-use Rattle.changes.specs.Stores.{stores, store_guard, values_at, indexed}
+use Rattle.changes.specs.Stores.{stores, store_guard, values_at}
 use Rattle.changes.proofs.Filling.{refused, chosen}
 use Rattle.changes.proofs.Reading.{along_cells}
 
@@ -127,7 +128,7 @@ module _ (p : Place) (t : Tables) (v b c : ℕ) (x y z : Layout) (ly : lawful p.
           let at = sym et in
           λ i. Ok (stored (cells T (at i) (rows i)) (l i) (w i))
 
-      pub store_filled : (u : Tables) (s : Result (Unit {0}) Outside) (r : Result Layout Fault) → Chosen (first_outside 1 form.s (indices_of ix t.integers)) t (changed form.kind t to writes) s u → r ≡ indexed p form s → Filled p v (outcome p.width plan) t r u
+      pub store_filled : (u : Tables) (s : Result (Unit {0}) Outside) (r : Result Layout Fault) → Chosen (first_outside 1 form.s (indices_of ix t.integers)) t (changed form.kind t to writes) s u → r ≡ answered p form s → Filled p v (outcome p.width plan) t r u
       store_filled u s r w e = chosen p v t u plan form (h ∙ store_guarded) to et writes (first_outside 1 form.s (indices_of ix t.integers)) s r store_outside store_elements w e
 
       module _ (b-row : b < p.row) (c-row : c < p.row) (v-b : v < b) (v-c : v < c) where

@@ -1,4 +1,5 @@
 -- A store into a matrix whose tests passed: where its cells lie, and that it writes what the rule names.
+use Rattle.expressions.specs.Answers.{answered}
 use Rattle.std.proofs.Common.{◌≡◌, ℕ, ◌+◌, ◌*◌, ◌<◌, ◌≤◌, true, ◌&&◌, List, [], ◌∷◌, get_or, set, ℤ, pos, None, Ok, Result, sym, ap, ◌∙◌, arith}
 use Rattle.std.proofs.lemmas.Bool.{and_parts}
 use Rattle.types.specs.declared.kinds.Kind.{Kind}
@@ -18,7 +19,7 @@ use Rattle.meaning.specs.States.{Tables, table_of, value_from}
 use Rattle.meaning.specs.Works.{guards, Filled, changed, Chosen}
 use Rattle.meaning.proofs.Shells.{tests}
 use Rattle.meaning.proofs.Rows.{lawful_small, under_all}
-use Rattle.changes.specs.Stores.{stores_two, indexed}
+use Rattle.changes.specs.Stores.{stores_two}
 use Rattle.changes.proofs.Filling.{chosen}
 use Rattle.changes.proofs.Reading.{one_cell, scalar_cell}
 
@@ -76,7 +77,7 @@ module _ (p : Place) (t : Tables) (v b c d : ℕ) (x y z w form : Layout) (h : O
         let at = sym et in
         λ m. Ok (set (cells T (at m) ((same m).r * (same m).s)) (place_of (i_is m) * (same m).s + place_of (j_is m)) (e m))
 
-    pub two_filled : (u : Tables) (s : Result (Unit {0}) Outside) (r : Result Layout Fault) → Chosen (first_outside2 form.r form.s (i ∷ []) (j ∷ [])) t (changed form.kind t to writes) s u → r ≡ indexed p form s → Filled p v (outcome p.width plan) t r u
+    pub two_filled : (u : Tables) (s : Result (Unit {0}) Outside) (r : Result Layout Fault) → Chosen (first_outside2 form.r form.s (i ∷ []) (j ∷ [])) t (changed form.kind t to writes) s u → r ≡ answered p form s → Filled p v (outcome p.width plan) t r u
     two_filled u s r g e = chosen p v t u plan form h to et writes (first_outside2 form.r form.s (i ∷ []) (j ∷ [])) s r two_outside two_elements g e
 
     module _ (len : ℕ) (ample : p.row * p.width + p.width ≤ len) where

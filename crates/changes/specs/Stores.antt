@@ -30,8 +30,3 @@ stores_two x y z w = is Matrix (known x) && (alone Integer (known y) && (alone I
 -- the elements of the value of layout z at row c: a scalar's for every place
 abbrev pub values_at : ℕ → ℕ → Layout → Values
 values_at W c z = record { at = c * W; spread = is Scalar (known z) }
-
--- an index outside is a fault at its place
-abbrev pub indexed : Place → Layout → Result (Unit {0}) Outside → Result Layout Fault
-indexed p x (Ok y) = Ok x
-indexed p x (Err o) = Err (fault_at p Index o.place)

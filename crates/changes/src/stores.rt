@@ -8,25 +8,16 @@ ghost use Rattle.meaning.specs.Plans.{with};
 ghost use Rattle.meaning.specs.States.{value_in};
 ghost use Rattle.meaning.specs.Values.{null_of, lawful, within};
 ghost use Rattle.meaning.specs.Works.{Filled, guards, changed, Chosen};
-ghost use Rattle.changes.specs.Stores.{stores, stores_two, store_guard, values_at, indexed};
+ghost use Rattle.changes.specs.Stores.{stores, stores_two, store_guard, values_at};
 ghost use Rattle.tables.specs.Lent.{held, Holds, Kept, Reach};
 
+use expressions::answers::answer;
 use expressions::lists::{is_orderly, list_at};
 use fault::{Cause, Fault};
 use meaning::{Layout, Place, Slip};
 use picks::{Outside, Values};
 use tables::Tables;
 use types::{Kind, Shape};
-
-/// The layout of the variable, or the fault of an index that names none of its elements.
-fn indexed(place: Place, form: Layout, stored: Result<(), Outside>) -> Result<Layout, Fault>
-    ensures { result ≡ indexed place form stored }
-{
-    match stored {
-        Ok(()) => Ok(form),
-        Err(outside) => Err(place.fault(Cause::Index, outside.place)),
-    }
-}
 
 /// Whether a value may be stored at an index of a vector: a scalar, or at several places a vector.
 fn can_store(x: Layout, y: Layout, z: Layout) -> bool
@@ -99,7 +90,7 @@ pub fn store_row(
     let index = list_at(place, b, y, tables);
     let values = values_at(place, c, z);
     let stored = tables.store(form.kind, to, form.s, index, values);
-    indexed(place, form, stored)
+    answer(place, form, stored)
 }
 
 /// Stores the element in the cell `from` into the r × s matrix from `to` on. The integers in the cells `row` and `column` name its place.
@@ -171,5 +162,5 @@ pub fn store_two_row(
     let column = place.start_of(c);
     let from = place.start_of(d);
     let stored = store_at_cells(form.kind, to, form.r, form.s, row, column, from, tables);
-    indexed(place, form, stored)
+    answer(place, form, stored)
 }

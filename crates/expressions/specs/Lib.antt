@@ -1,3 +1,4 @@
+pub mod Answers
 pub mod Pairs
 pub mod Parts
 pub mod Lists

@@ -1,6 +1,7 @@
 //! Expression rows at work: each writes its value into its own cells, or tells its fault.
 #![tactic(auto)]
 
+pub mod answers;
 pub mod builds;
 pub mod calculations;
 pub mod constants;

@@ -1,4 +1,5 @@
 -- Rows that choose elements by indices: their tests, their elements and their answers are those of the rule.
+use Rattle.expressions.specs.Answers.{answered}
 use Rattle.std.proofs.Common.{◌≡◌, ℕ, ◌+◌, ◌*◌, ◌≤◌, true, cond, not, ◌&&◌, List, Some, None, Ok, Option, Result, sym, ap, ◌∙◌, subst, one-mul}
 use Rattle.std.proofs.lemmas.Bool.{and_parts}
 use Rattle.types.specs.declared.kinds.Kind.{Kind}
@@ -23,7 +24,7 @@ use Rattle.meaning.proofs.Shells.{stays, tests, left_value, left_outside}
 use Rattle.meaning.proofs.Rows.{lawful_fixed, lawful_small, vector_one}
 use Rattle.expressions.specs.Lists.{list_at, orderly}
 use Rattle.expressions.proofs.Listing.{list_count, list_order, list_elements, list_below}
-use Rattle.selections.specs.Choices.{answered, pick_guard}
+use Rattle.selections.specs.Choices.{pick_guard}
 
 -- ---- a row whose indices were sought
 module _ (p : Place) (t u : Tables) (q : Plan) (x : Layout) (h : Ok x ≡ guarded p q) where

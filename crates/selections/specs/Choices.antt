@@ -15,11 +15,6 @@ use Rattle.meaning.specs.Expressions.{cross_shape}
 use Rattle.meaning.specs.Works.{fault_at, guards}
 use Rattle.expressions.specs.Lists.{orderly}
 
--- the layout of what is chosen; or the row's fault, at the index that names no element
-abbrev pub answered : Place → Layout → Result (Unit {0}) Outside → Result Layout Fault
-answered p f (Ok z) = Ok f
-answered p f (Err o) = Err (fault_at p cause.Index o.place)
-
 -- ---- a vector and a list of indices
 abbrev pub pick_layout : Kind → Layout → Index → Layout
 pick_layout k y list = layout_of k (cond (is Scalar (known y)) Scalar Vector) 1 (index_count list)

@@ -7,7 +7,7 @@ ghost use Rattle.meaning.specs.Works.{Made};
 ghost use Rattle.selections.specs.Choices.{pick_guard, pick_layout};
 ghost use Rattle.tables.specs.Lent.{held, Holds, Kept, Reach};
 
-use crate::answers::answer;
+use expressions::answers::answer;
 use expressions::lists::{is_orderly, list_at};
 use fault::Fault;
 use meaning::{Layout, Place, Slip};

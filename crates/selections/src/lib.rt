@@ -1,7 +1,6 @@
 //! Rows that pick, step and compare: each writes its value into its own cells, or tells its fault.
 #![tactic(auto)]
 
-mod answers;
 pub mod crossing;
 pub mod equalities;
 pub mod indexing;

@@ -1,7 +1,7 @@
 use Rattle.std.proofs.Common.{arith, ◌+◌, ◌*◌, rules, length}
 use Rattle.std.proofs.lemmas.Result.{IfOk-from_err}
 use Rattle.meaning.specs.Changes.{stored_at}
-use Rattle.changes.proofs.Filling.{filled_3, indexed_within}
+use Rattle.changes.proofs.Filling.{filled_3, answered_within}
 use Rattle.changes.proofs.Reading.{next_cell}
 use Rattle.changes.proofs.Storing.{ruled, by_list, store_refused, store_filled, store_above, store_under, store_seen, store_fits}
 use Rattle.tables.specs.Lent.{held}
@@ -78,8 +78,8 @@ returns c =
     let vs = c.values_at-values in
     let s = c.store-stored.result in
     record {
-      filled = filled_3 p a.v a.slips.now t u c.indexed.result a.v a.b a.c stored_at x y z c.in_ok-x.ensures.is c.in_ok-y.ensures.is c.in_ok-z.ensures.is
-          (store_filled p t a.v a.b a.c x y z ly form g lx lz to.result to.ensures ix.result ix.ensures vs.result vs.ensures u s c.indexed.result c.store-stored.ensures.value c.indexed.ensures);
-      within = indexed_within p form s c.indexed.result c.indexed.ensures c.in_ok-form.ensures.within;
+      filled = filled_3 p a.v a.slips.now t u c.answer.result a.v a.b a.c stored_at x y z c.in_ok-x.ensures.is c.in_ok-y.ensures.is c.in_ok-z.ensures.is
+          (store_filled p t a.v a.b a.c x y z ly form g lx lz to.result to.ensures ix.result ix.ensures vs.result vs.ensures u s c.answer.result c.store-stored.ensures.value c.answer.ensures);
+      within = answered_within p form s c.answer.result c.answer.ensures c.in_ok-form.ensures.within;
       lent = search rules;
     }

@@ -3,7 +3,7 @@ use Rattle.std.proofs.lemmas.Result.{IfOk-from_err}
 use Rattle.meaning.specs.Changes.{stored_at_two}
 use Rattle.meaning.specs.Expressions.{by3}
 use Rattle.meaning.specs.States.{value_from, value_in}
-use Rattle.changes.proofs.Filling.{filled_with, filled_3, refused, indexed_within}
+use Rattle.changes.proofs.Filling.{filled_with, filled_3, refused, answered_within}
 use Rattle.changes.proofs.StoringTwo.{two_filled, row_below, column_below, value_below, matrix_fits}
 use Rattle.tables.specs.Lent.{held}
 use Rattle.tables.proofs.Reaching.{reach}
@@ -76,11 +76,11 @@ returns c =
     let column = c.start_of-column in
     let from = c.start_of-from in
     let s = c.store_at_cells-stored.result in
-    let r = c.indexed.result in
+    let r = c.answer.result in
     record {
       filled = filled_with p a.v a.slips.now t u r a.v (λ o. by3 p.width (value_in p.width a.slips.now t) a.b a.c a.d (stored_at_two o)) x c.in_ok-x.ensures.is
           (filled_3 p a.v a.slips.now t u r a.b a.c a.d (stored_at_two (value_from p.width t a.v x)) y z w c.in_ok-y.ensures.is c.in_ok-z.ensures.is c.in_ok-w.ensures.is
-          (two_filled p t a.v a.b a.c a.d x y z w form g lx ly lz lw to.result row.result column.result from.result to.ensures row.ensures column.ensures from.ensures u s r c.store_at_cells-stored.ensures.value c.indexed.ensures));
-      within = indexed_within p form s r c.indexed.ensures c.in_ok-form.ensures.within;
+          (two_filled p t a.v a.b a.c a.d x y z w form g lx ly lz lw to.result row.result column.result from.result to.ensures row.ensures column.ensures from.ensures u s r c.store_at_cells-stored.ensures.value c.answer.ensures));
+      within = answered_within p form s r c.answer.ensures c.in_ok-form.ensures.within;
       lent = search rules;
     }
