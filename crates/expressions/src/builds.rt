@@ -9,11 +9,12 @@ ghost use Rattle.rules.specs.Rules.{joins};
 ghost use Rattle.meaning.specs.Expressions.{by1, by2, joined, stack as stacked, size_or, resized_to, cast_to};
 ghost use Rattle.meaning.specs.Values.{known, layout_of, vector_of, within};
 ghost use Rattle.meaning.specs.Works.{guards};
-ghost use Rattle.tables.specs.Lent.{held, Holds, Kept, Reach};
+ghost use Rattle.tables.specs.Frames.{values, Fills, Lasts, Makes, Stays};
+ghost use Rattle.tables.specs.Lent.{held, Kept, Reach};
 
 use fault::Fault;
 use meaning::{Layout, Place, Slip};
-use tables::Tables;
+use tables::{Frame, Tables};
 use types::{Kind, Shape, Size};
 
 fn is_row(x: Layout) -> bool
@@ -33,26 +34,20 @@ fn guard_join(place: Place, x: Layout, y: Layout) -> Result<Layout, Fault>
 }
 
 /// One vector or scalar after another.
-pub fn join_row(
-    place: Place,
-    a: u16,
-    b: u16,
-    slips: &[Slip],
-    tables: &mut Tables,
-) -> Result<Layout, Fault>
-    requires left { a < place.row }
-    requires right { b < place.row }
-    requires ample { Holds place tables.old }
-    ensures value { Made place (by2 place.width (value_in place.width slips.now (held tables.old)) a b joined) (held tables.old) result (held tables.new) }
-    ensures lent { Kept tables.old tables.new }
+pub fn join_row(frame: &mut Frame, a: u16, b: u16) -> Result<Layout, Fault>
+    requires left { a < frame.old.place.row }
+    requires right { b < frame.old.place.row }
+    ensures made { Makes frame.old (by2 frame.old.place.width (values frame.old) a b joined) result frame.new }
+    ensures stays { Stays frame.old frame.new }
 {
-    let x = place.operand(slips, a)?;
-    let y = place.operand(slips, b)?;
+    let place = frame.place;
+    let x = frame.operand(a)?;
+    let y = frame.operand(b)?;
     let form = guard_join(place, x, y)?;
     let left = place.start_of(a);
     let right = place.start_of(b);
     let to = place.start_of(place.row);
-    tables.join(x.kind, left, x.s, right, y.s, to);
+    frame.tables.join(x.kind, left, x.s, right, y.s, to);
     Ok(form)
 }
 
@@ -75,26 +70,20 @@ fn guard_stack(place: Place, x: Layout, y: Layout) -> Result<Layout, Fault>
 }
 
 /// The rows of a vector or matrix, and a vector under them.
-pub fn stack_row(
-    place: Place,
-    a: u16,
-    b: u16,
-    slips: &[Slip],
-    tables: &mut Tables,
-) -> Result<Layout, Fault>
-    requires left { a < place.row }
-    requires right { b < place.row }
-    requires ample { Holds place tables.old }
-    ensures value { Made place (by2 place.width (value_in place.width slips.now (held tables.old)) a b stacked) (held tables.old) result (held tables.new) }
-    ensures lent { Kept tables.old tables.new }
+pub fn stack_row(frame: &mut Frame, a: u16, b: u16) -> Result<Layout, Fault>
+    requires left { a < frame.old.place.row }
+    requires right { b < frame.old.place.row }
+    ensures made { Makes frame.old (by2 frame.old.place.width (values frame.old) a b stacked) result frame.new }
+    ensures stays { Stays frame.old frame.new }
 {
-    let x = place.operand(slips, a)?;
-    let y = place.operand(slips, b)?;
+    let place = frame.place;
+    let x = frame.operand(a)?;
+    let y = frame.operand(b)?;
     let form = guard_stack(place, x, y)?;
     let upper = place.start_of(a);
     let lower = place.start_of(b);
     let to = place.start_of(place.row);
-    tables.stack(x.kind, upper, x.r, x.s, lower, y.s, to);
+    frame.tables.stack(x.kind, upper, x.r, x.s, lower, y.s, to);
     Ok(form)
 }
 
@@ -126,24 +115,19 @@ fn guard_resize(place: Place, r: Size, s: Size, x: Layout) -> Result<Layout, Fau
 }
 
 /// A vector or matrix, cut or padded with nulls to the written sizes.
-pub fn resize_row(
-    place: Place,
-    a: u16,
-    r: Size,
-    s: Size,
-    slips: &[Slip],
-    tables: &mut Tables,
-) -> Result<Layout, Fault>
-    requires before { a < place.row }
-    requires ample { Holds place tables.old }
-    ensures value { Made place (by1 place.width (value_in place.width slips.now (held tables.old)) a (resized_to r s)) (held tables.old) result (held tables.new) }
-    ensures lent { Kept tables.old tables.new }
+pub fn resize_row(frame: &mut Frame, a: u16, r: Size, s: Size) -> Result<Layout, Fault>
+    requires before { a < frame.old.place.row }
+    ensures made { Makes frame.old (by1 frame.old.place.width (values frame.old) a (resized_to r s)) result frame.new }
+    ensures stays { Stays frame.old frame.new }
 {
-    let x = place.operand(slips, a)?;
+    let place = frame.place;
+    let x = frame.operand(a)?;
     let form = guard_resize(place, r, s, x)?;
     let at = place.start_of(a);
     let to = place.start_of(place.row);
-    tables.resize_matrix(x.kind, at, x.r, x.s, to, form.r, form.s);
+    frame
+        .tables
+        .resize_matrix(x.kind, at, x.r, x.s, to, form.r, form.s);
     Ok(form)
 }
 
@@ -155,22 +139,16 @@ fn guard_cast(place: Place, kind: Kind, x: Layout) -> Result<Layout, Fault>
 }
 
 /// A value as another kind, element by element.
-pub fn cast_row(
-    place: Place,
-    kind: Kind,
-    a: u16,
-    slips: &[Slip],
-    tables: &mut Tables,
-) -> Result<Layout, Fault>
-    requires before { a < place.row }
-    requires ample { Holds place tables.old }
-    ensures value { Made place (by1 place.width (value_in place.width slips.now (held tables.old)) a (cast_to kind)) (held tables.old) result (held tables.new) }
-    ensures lent { Kept tables.old tables.new }
+pub fn cast_row(frame: &mut Frame, kind: Kind, a: u16) -> Result<Layout, Fault>
+    requires before { a < frame.old.place.row }
+    ensures made { Makes frame.old (by1 frame.old.place.width (values frame.old) a (cast_to kind)) result frame.new }
+    ensures stays { Stays frame.old frame.new }
 {
-    let x = place.operand(slips, a)?;
+    let place = frame.place;
+    let x = frame.operand(a)?;
     let form = guard_cast(place, kind, x)?;
     let at = place.start_of(a);
     let to = place.start_of(place.row);
-    tables.cast(x.kind, kind, at, to, x.area(place.width));
+    frame.tables.cast(x.kind, kind, at, to, x.area(place.width));
     Ok(form)
 }

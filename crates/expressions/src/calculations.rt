@@ -3,6 +3,7 @@ ghost use Rattle.std.specs.Prelude.{◌≡◌, ℕ, ◌+◌, ◌*◌, ◌<◌, �
 ghost use Rattle.meaning.specs.Expressions.{by2, calculated, compared, decided_by};
 ghost use Rattle.meaning.specs.States.{value_in};
 ghost use Rattle.expressions.specs.Parts.{InIntegers, InBooleans, OfIntegers};
+ghost use Rattle.tables.specs.Frames.{values, Fills, Lasts, Makes, Stays};
 
 use crate::operands::{cells_of, guard_pair};
 use arithmetic::faults::at_row;
@@ -11,79 +12,65 @@ use arithmetic::truths::{Logic, Order};
 use elementwise::infix::{calculate, compare, decide};
 use fault::Fault;
 use meaning::{Layout, Place, Slip};
+use tables::Frame;
 use types::Kind;
 
 /// A row of arithmetic.
-pub fn calculate_row(
-    place: Place,
-    op: Arithmetic,
-    a: u16,
-    b: u16,
-    slips: &[Slip],
-    integers: &mut [i32],
-) -> Result<Layout, Fault>
-    requires left { a < place.row }
-    requires right { b < place.row }
-    requires ample { place.row * place.width + place.width ≤ length integers.old }
-    ensures { InIntegers place (λ t. by2 place.width (value_in place.width slips.now t) a b (calculated op)) integers.old result integers.new }
+pub fn calculate_row(frame: &mut Frame, op: Arithmetic, a: u16, b: u16) -> Result<Layout, Fault>
+    requires left { a < frame.old.place.row }
+    requires right { b < frame.old.place.row }
+    ensures made { Makes frame.old (by2 frame.old.place.width (values frame.old) a b (calculated op)) result frame.new }
+    ensures stays { Stays frame.old frame.new }
 {
-    let x = place.operand(slips, a)?;
-    let y = place.operand(slips, b)?;
+    let place = frame.place;
+    let x = frame.operand(a)?;
+    let y = frame.operand(b)?;
     let form = guard_pair(place, Kind::Integer, Kind::Integer, x, y)?;
     let left = cells_of(place, a, x);
     let right = cells_of(place, b, y);
     let to = place.start_of(place.row);
-    let worked = calculate(integers, op, left, right, to, form.r * form.s);
+    let tables = &mut frame.tables;
+    let worked = calculate(tables.integers, op, left, right, to, form.r * form.s);
     at_row(worked, place.row, place.line)?;
     Ok(form)
 }
 
 /// A row that orders integers.
-pub fn compare_row(
-    place: Place,
-    op: Order,
-    a: u16,
-    b: u16,
-    slips: &[Slip],
-    integers: &[i32],
-    booleans: &mut [bool],
-) -> Result<Layout, Fault>
-    requires left { a < place.row }
-    requires right { b < place.row }
-    requires integers { place.row * place.width ≤ length integers.now }
-    requires ample { place.row * place.width + place.width ≤ length booleans.old }
-    ensures { OfIntegers place (λ t. by2 place.width (value_in place.width slips.now t) a b (compared op)) integers.now booleans.old result booleans.new }
+pub fn compare_row(frame: &mut Frame, op: Order, a: u16, b: u16) -> Result<Layout, Fault>
+    requires left { a < frame.old.place.row }
+    requires right { b < frame.old.place.row }
+    ensures made { Makes frame.old (by2 frame.old.place.width (values frame.old) a b (compared op)) result frame.new }
+    ensures stays { Stays frame.old frame.new }
 {
-    let x = place.operand(slips, a)?;
-    let y = place.operand(slips, b)?;
+    let place = frame.place;
+    let x = frame.operand(a)?;
+    let y = frame.operand(b)?;
     let form = guard_pair(place, Kind::Integer, Kind::Boolean, x, y)?;
     let left = cells_of(place, a, x);
     let right = cells_of(place, b, y);
     let to = place.start_of(place.row);
+    let tables = &mut frame.tables;
+    let integers = &mut *tables.integers;
+    let booleans = &mut *tables.booleans;
     compare(integers, booleans, op, left, right, to, form.r * form.s);
     Ok(form)
 }
 
 /// A row that joins booleans. Both operands are worked, whatever the first is.
-pub fn decide_row(
-    place: Place,
-    op: Logic,
-    a: u16,
-    b: u16,
-    slips: &[Slip],
-    booleans: &mut [bool],
-) -> Result<Layout, Fault>
-    requires left { a < place.row }
-    requires right { b < place.row }
-    requires ample { place.row * place.width + place.width ≤ length booleans.old }
-    ensures { InBooleans place (λ t. by2 place.width (value_in place.width slips.now t) a b (decided_by op)) booleans.old result booleans.new }
+pub fn decide_row(frame: &mut Frame, op: Logic, a: u16, b: u16) -> Result<Layout, Fault>
+    requires left { a < frame.old.place.row }
+    requires right { b < frame.old.place.row }
+    ensures made { Makes frame.old (by2 frame.old.place.width (values frame.old) a b (decided_by op)) result frame.new }
+    ensures stays { Stays frame.old frame.new }
 {
-    let x = place.operand(slips, a)?;
-    let y = place.operand(slips, b)?;
+    let place = frame.place;
+    let x = frame.operand(a)?;
+    let y = frame.operand(b)?;
     let form = guard_pair(place, Kind::Boolean, Kind::Boolean, x, y)?;
     let left = cells_of(place, a, x);
     let right = cells_of(place, b, y);
     let to = place.start_of(place.row);
-    decide(booleans, op, left, right, to, form.r * form.s);
+    let tables = &mut frame.tables;
+    decide(tables.booleans, op, left, right, to, form.r * form.s);
     Ok(form)
 }

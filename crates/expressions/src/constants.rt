@@ -4,23 +4,24 @@ ghost use Rattle.meaning.specs.Works.{Made};
 ghost use Rattle.meaning.specs.Expressions.{literal, empty};
 ghost use Rattle.meaning.specs.Plans.{outcome};
 ghost use Rattle.meaning.specs.States.{Tables as Held};
-ghost use Rattle.tables.specs.Lent.{held, Holds, Kept, Reach};
+ghost use Rattle.tables.specs.Frames.{values, Fills, Lasts, Makes, Stays};
+ghost use Rattle.tables.specs.Lent.{held, Kept, Reach};
 
 use fault::Fault;
 use meaning::{Layout, Place};
-use tables::Tables;
+use tables::{Frame, Tables};
 use types::Kind;
 
 /// A literal of a kind.
-pub fn literal_row(place: Place, kind: Kind, n: i32, tables: &mut Tables) -> Result<Layout, Fault>
-    requires wide { 1 < place.width }
-    requires ample { Holds place tables.old }
-    ensures value { Made place (outcome place.width (literal kind n)) (held tables.old) result (held tables.new) }
-    ensures lent { Kept tables.old tables.new }
+pub fn literal_row(frame: &mut Frame, kind: Kind, n: i32) -> Result<Layout, Fault>
+    requires wide { 1 < frame.old.place.width }
+    ensures made { Makes frame.old (outcome frame.old.place.width (literal kind n)) result frame.new }
+    ensures stays { Stays frame.old frame.new }
 {
+    let place = frame.place;
     let form = place.guard(true, true, None, Layout::scalar(kind), true)?;
     let to = place.start_of(place.row);
-    tables.write_literal(kind, n, to);
+    frame.tables.write_literal(kind, n, to);
     Ok(form)
 }
 

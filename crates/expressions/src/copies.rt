@@ -4,70 +4,56 @@ ghost use Rattle.meaning.specs.States.{value_in};
 ghost use Rattle.meaning.specs.Works.{Made};
 ghost use Rattle.instruction.specs.declared.instructions.Measure.TheVariants.{Reverse, Single};
 ghost use Rattle.meaning.specs.Expressions.{by1, copied, measured};
-ghost use Rattle.tables.specs.Lent.{held, Holds, Kept, Reach};
+ghost use Rattle.tables.specs.Frames.{values, Fills, Lasts, Makes, Stays};
+ghost use Rattle.tables.specs.Lent.{held, Kept, Reach};
 
 use fault::Fault;
 use meaning::{Layout, Place, Slip};
-use tables::Tables;
+use tables::{Frame, Tables};
 use types::Shape;
 
 /// The value of a variable.
-pub fn variable_row(
-    place: Place,
-    a: u16,
-    slips: &[Slip],
-    tables: &mut Tables,
-) -> Result<Layout, Fault>
-    requires before { a < place.row }
-    requires ample { Holds place tables.old }
-    ensures value { Made place (by1 place.width (value_in place.width slips.now (held tables.old)) a (copied)) (held tables.old) result (held tables.new) }
-    ensures lent { Kept tables.old tables.new }
+pub fn variable_row(frame: &mut Frame, a: u16) -> Result<Layout, Fault>
+    requires before { a < frame.old.place.row }
+    ensures made { Makes frame.old (by1 frame.old.place.width (values frame.old) a (copied)) result frame.new }
+    ensures stays { Stays frame.old frame.new }
 {
-    let x = place.operand(slips, a)?;
+    let place = frame.place;
+    let x = frame.operand(a)?;
     let form = place.guard(true, true, None, x, true)?;
     let at = place.start_of(a);
     let to = place.start_of(place.row);
-    tables.copy(form.kind, at, form.r * form.s, to);
+    frame.tables.copy(form.kind, at, form.r * form.s, to);
     Ok(form)
 }
 
 /// A vector backward.
-pub fn reverse_row(
-    place: Place,
-    a: u16,
-    slips: &[Slip],
-    tables: &mut Tables,
-) -> Result<Layout, Fault>
-    requires before { a < place.row }
-    requires ample { Holds place tables.old }
-    ensures value { Made place (by1 place.width (value_in place.width slips.now (held tables.old)) a (measured Reverse)) (held tables.old) result (held tables.new) }
-    ensures lent { Kept tables.old tables.new }
+pub fn reverse_row(frame: &mut Frame, a: u16) -> Result<Layout, Fault>
+    requires before { a < frame.old.place.row }
+    ensures made { Makes frame.old (by1 frame.old.place.width (values frame.old) a (measured Reverse)) result frame.new }
+    ensures stays { Stays frame.old frame.new }
 {
-    let x = place.operand(slips, a)?;
+    let place = frame.place;
+    let x = frame.operand(a)?;
     let form = place.guard(x.typing().is(Shape::Vector), true, None, x, true)?;
     let at = place.start_of(a);
     let to = place.start_of(place.row);
-    tables.reverse(form.kind, at, form.r * form.s, to);
+    frame.tables.reverse(form.kind, at, form.r * form.s, to);
     Ok(form)
 }
 
 /// The vector of one scalar.
-pub fn single_row(
-    place: Place,
-    a: u16,
-    slips: &[Slip],
-    tables: &mut Tables,
-) -> Result<Layout, Fault>
-    requires before { a < place.row }
-    requires ample { Holds place tables.old }
-    ensures value { Made place (by1 place.width (value_in place.width slips.now (held tables.old)) a (measured Single)) (held tables.old) result (held tables.new) }
-    ensures lent { Kept tables.old tables.new }
+pub fn single_row(frame: &mut Frame, a: u16) -> Result<Layout, Fault>
+    requires before { a < frame.old.place.row }
+    ensures made { Makes frame.old (by1 frame.old.place.width (values frame.old) a (measured Single)) result frame.new }
+    ensures stays { Stays frame.old frame.new }
 {
-    let x = place.operand(slips, a)?;
+    let place = frame.place;
+    let x = frame.operand(a)?;
     let ruled = x.typing().is(Shape::Scalar);
     let form = place.guard(ruled, true, None, Layout::vector(x.kind, 1), true)?;
     let at = place.start_of(a);
     let to = place.start_of(place.row);
-    tables.copy(x.kind, at, x.area(place.width), to);
+    frame.tables.copy(x.kind, at, x.area(place.width), to);
     Ok(form)
 }

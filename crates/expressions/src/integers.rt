@@ -10,11 +10,12 @@ ghost use Rattle.meaning.specs.States.{value_in};
 ghost use Rattle.meaning.specs.Values.{known, scalar_of, within};
 ghost use Rattle.meaning.specs.Works.{guards};
 ghost use Rattle.expressions.specs.Parts.{InIntegers};
+ghost use Rattle.tables.specs.Frames.{values, Fills, Lasts, Makes, Stays};
 
-use element::cells::join;
 use fault::Fault;
 use meaning::{Layout, Place, Slip};
 use source::StreamState;
+use tables::{Frame, Tables};
 use types::{Kind, Shape};
 
 fn are_bounds(x: Layout, y: Layout) -> bool
@@ -24,12 +25,12 @@ fn are_bounds(x: Layout, y: Layout) -> bool
 }
 
 /// Whether the integer at `a` is not above the one at `b`.
-fn is_upward(integers: &[i32], a: usize, b: usize) -> bool
-    requires left { a < length integers.now }
-    requires right { b < length integers.now }
-    ensures { result ≡ int_le (slice_index_or integers.now a (pos 0)) (slice_index_or integers.now b (pos 0)) }
+fn is_upward(tables: &Tables, a: usize, b: usize) -> bool
+    requires left { a < length tables.now.integers.now }
+    requires right { b < length tables.now.integers.now }
+    ensures { result ≡ int_le (slice_index_or tables.now.integers.now a (pos 0)) (slice_index_or tables.now.integers.now b (pos 0)) }
 {
-    integers[a] <= integers[b]
+    tables.integers[a] <= tables.integers[b]
 }
 
 /// Writes a size as an integer.
@@ -42,21 +43,16 @@ fn write_size(integers: &mut [i32], n: usize, to: usize)
 }
 
 /// The interval from one integer to another.
-pub fn interval_row(
-    place: Place,
-    a: u16,
-    b: u16,
-    slips: &[Slip],
-    integers: &mut [i32],
-) -> Result<Layout, Fault>
-    requires wide { 1 < place.width }
-    requires left { a < place.row }
-    requires right { b < place.row }
-    requires ample { place.row * place.width + place.width ≤ length integers.old }
-    ensures { InIntegers place (λ t. by2 place.width (value_in place.width slips.now t) a b interval) integers.old result integers.new }
+pub fn interval_row(frame: &mut Frame, a: u16, b: u16) -> Result<Layout, Fault>
+    requires wide { 1 < frame.old.place.width }
+    requires left { a < frame.old.place.row }
+    requires right { b < frame.old.place.row }
+    ensures made { Makes frame.old (by2 frame.old.place.width (values frame.old) a b interval) result frame.new }
+    ensures stays { Stays frame.old frame.new }
 {
-    let x = place.operand(slips, a)?;
-    let y = place.operand(slips, b)?;
+    let place = frame.place;
+    let x = frame.operand(a)?;
+    let y = frame.operand(b)?;
     let low = place.start_of(a);
     let high = place.start_of(b);
     let bounds = Layout {
@@ -67,12 +63,14 @@ pub fn interval_row(
     };
     let form = place.guard(
         are_bounds(x, y),
-        is_upward(integers, low, high),
+        is_upward(&frame.tables, low, high),
         None,
         bounds,
         true,
     )?;
-    join(integers, low, 1, high, 1, place.start_of(place.row));
+    frame
+        .tables
+        .join(Kind::Integer, low, 1, high, 1, place.start_of(place.row));
     Ok(form)
 }
 
@@ -91,56 +89,54 @@ fn guard_measure(place: Place, shape: Shape, x: Layout) -> Result<Layout, Fault>
 }
 
 /// The length of a vector.
-pub fn length_row(
-    place: Place,
-    a: u16,
-    slips: &[Slip],
-    integers: &mut [i32],
-) -> Result<Layout, Fault>
-    requires ample { place.row * place.width + place.width ≤ length integers.old }
-    ensures { InIntegers place (λ t. by1 place.width (value_in place.width slips.now t) a (measured Length)) integers.old result integers.new }
+pub fn length_row(frame: &mut Frame, a: u16) -> Result<Layout, Fault>
+    ensures made { Makes frame.old (by1 frame.old.place.width (values frame.old) a (measured Length)) result frame.new }
+    ensures stays { Stays frame.old frame.new }
 {
-    let x = place.operand(slips, a)?;
+    let place = frame.place;
+    let x = frame.operand(a)?;
     let form = guard_measure(place, Shape::Vector, x)?;
-    write_size(integers, x.s, place.start_of(place.row));
+    let tables = &mut frame.tables;
+    write_size(tables.integers, x.s, place.start_of(place.row));
     Ok(form)
 }
 
 /// How many rows a matrix has.
-pub fn rows_row(place: Place, a: u16, slips: &[Slip], integers: &mut [i32]) -> Result<Layout, Fault>
-    requires ample { place.row * place.width + place.width ≤ length integers.old }
-    ensures { InIntegers place (λ t. by1 place.width (value_in place.width slips.now t) a (measured Rows)) integers.old result integers.new }
+pub fn rows_row(frame: &mut Frame, a: u16) -> Result<Layout, Fault>
+    ensures made { Makes frame.old (by1 frame.old.place.width (values frame.old) a (measured Rows)) result frame.new }
+    ensures stays { Stays frame.old frame.new }
 {
-    let x = place.operand(slips, a)?;
+    let place = frame.place;
+    let x = frame.operand(a)?;
     let form = guard_measure(place, Shape::Matrix, x)?;
-    write_size(integers, x.r, place.start_of(place.row));
+    let tables = &mut frame.tables;
+    write_size(tables.integers, x.r, place.start_of(place.row));
     Ok(form)
 }
 
 /// How many columns a matrix has.
-pub fn columns_row(
-    place: Place,
-    a: u16,
-    slips: &[Slip],
-    integers: &mut [i32],
-) -> Result<Layout, Fault>
-    requires ample { place.row * place.width + place.width ≤ length integers.old }
-    ensures { InIntegers place (λ t. by1 place.width (value_in place.width slips.now t) a (measured Columns)) integers.old result integers.new }
+pub fn columns_row(frame: &mut Frame, a: u16) -> Result<Layout, Fault>
+    ensures made { Makes frame.old (by1 frame.old.place.width (values frame.old) a (measured Columns)) result frame.new }
+    ensures stays { Stays frame.old frame.new }
 {
-    let x = place.operand(slips, a)?;
+    let place = frame.place;
+    let x = frame.operand(a)?;
     let form = guard_measure(place, Shape::Matrix, x)?;
-    write_size(integers, x.s, place.start_of(place.row));
+    let tables = &mut frame.tables;
+    write_size(tables.integers, x.s, place.start_of(place.row));
     Ok(form)
 }
 
 /// How the last read went.
-pub fn state_row(place: Place, state: StreamState, integers: &mut [i32]) -> Result<Layout, Fault>
-    requires ample { place.row * place.width + place.width ≤ length integers.old }
-    ensures { InIntegers place (λ t. outcome place.width (streamed state)) integers.old result integers.new }
+pub fn state_row(frame: &mut Frame, state: StreamState) -> Result<Layout, Fault>
+    ensures made { Makes frame.old (outcome frame.old.place.width (streamed state)) result frame.new }
+    ensures stays { Stays frame.old frame.new }
 {
+    let place = frame.place;
     let form = place.guard(true, true, None, Layout::scalar(Kind::Integer), true)?;
+    let tables = &mut frame.tables;
     write_size(
-        integers,
+        tables.integers,
         usize::from(state.number()),
         place.start_of(place.row),
     );

@@ -1,22 +1,23 @@
 //! Values as lists: a vector or a scalar by its cells, an interval by its bounds.
 ghost use Rattle.std.specs.Prelude.{◌≡◌, ℕ, ◌+◌, ◌*◌, ◌<◌, ◌≤◌, length};
 ghost use Rattle.expressions.specs.Lists.{list_at, orderly};
+ghost use Rattle.tables.specs.Frames.{values, Fills, Lasts, Makes, Stays};
 
 use meaning::{Layout, Place};
 use picks::Index;
-use tables::Tables;
+use tables::{Frame, Tables};
 use types::Shape;
 
 /// The list that the value of layout x at row a stands for.
-pub fn list_at(place: Place, a: u16, x: Layout, tables: &Tables) -> Index
-    requires { a * place.width + 1 < length tables.now.integers.now }
-    ensures { result ≡ list_at place.width tables.now.integers.now a x }
+pub fn list_at(frame: &Frame, a: u16, x: Layout) -> Index
+    requires { a * frame.now.place.width + 1 < length frame.now.tables.integers.now }
+    ensures { result ≡ list_at frame.now.place.width frame.now.tables.integers.now a x }
 {
-    let at = place.start_of(a);
+    let at = frame.place.start_of(a);
     if Shape::Interval.same(x.shape) {
         Index::Interval {
-            low: tables.integers[at],
-            high: tables.integers[at + 1],
+            low: frame.tables.integers[at],
+            high: frame.tables.integers[at + 1],
         }
     } else {
         Index::Cells { at, count: x.s }

@@ -7,11 +7,13 @@ ghost use Rattle.meaning.specs.States.{value_in};
 ghost use Rattle.meaning.specs.Values.{layout_of, known, within};
 ghost use Rattle.meaning.specs.Works.{guards};
 ghost use Rattle.expressions.specs.Parts.{InIntegers, InBooleans};
+ghost use Rattle.tables.specs.Frames.{values, Fills, Lasts, Makes, Stays};
 
 use arithmetic::faults::at_row;
 use elementwise::prefix::{negate, not};
 use fault::Fault;
 use meaning::{Layout, Place, Slip};
+use tables::Frame;
 use types::Kind;
 
 /// The layout of what a prefix operator gives of a value, which is of the operator's kind.
@@ -25,35 +27,34 @@ fn guard_prefix(place: Place, kind: Kind, x: Layout) -> Result<Layout, Fault>
 }
 
 /// The minus of integers.
-pub fn negate_row(
-    place: Place,
-    a: u16,
-    slips: &[Slip],
-    integers: &mut [i32],
-) -> Result<Layout, Fault>
-    requires before { a < place.row }
-    requires ample { place.row * place.width + place.width ≤ length integers.old }
-    ensures { InIntegers place (λ t. by1 place.width (value_in place.width slips.now t) a (prefixed Minus)) integers.old result integers.new }
+pub fn negate_row(frame: &mut Frame, a: u16) -> Result<Layout, Fault>
+    requires before { a < frame.old.place.row }
+    ensures made { Makes frame.old (by1 frame.old.place.width (values frame.old) a (prefixed Minus)) result frame.new }
+    ensures stays { Stays frame.old frame.new }
 {
-    let x = place.operand(slips, a)?;
+    let place = frame.place;
+    let x = frame.operand(a)?;
     let form = guard_prefix(place, Kind::Integer, x)?;
     let at = place.start_of(a);
     let to = place.start_of(place.row);
-    let worked = negate(integers, at, to, form.r * form.s);
+    let tables = &mut frame.tables;
+    let worked = negate(tables.integers, at, to, form.r * form.s);
     at_row(worked, place.row, place.line)?;
     Ok(form)
 }
 
 /// The opposite of booleans.
-pub fn not_row(place: Place, a: u16, slips: &[Slip], booleans: &mut [bool]) -> Result<Layout, Fault>
-    requires before { a < place.row }
-    requires ample { place.row * place.width + place.width ≤ length booleans.old }
-    ensures { InBooleans place (λ t. by1 place.width (value_in place.width slips.now t) a (prefixed Not)) booleans.old result booleans.new }
+pub fn not_row(frame: &mut Frame, a: u16) -> Result<Layout, Fault>
+    requires before { a < frame.old.place.row }
+    ensures made { Makes frame.old (by1 frame.old.place.width (values frame.old) a (prefixed Not)) result frame.new }
+    ensures stays { Stays frame.old frame.new }
 {
-    let x = place.operand(slips, a)?;
+    let place = frame.place;
+    let x = frame.operand(a)?;
     let form = guard_prefix(place, Kind::Boolean, x)?;
     let at = place.start_of(a);
     let to = place.start_of(place.row);
-    not(booleans, at, to, form.r * form.s);
+    let tables = &mut frame.tables;
+    not(tables.booleans, at, to, form.r * form.s);
     Ok(form)
 }

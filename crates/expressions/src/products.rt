@@ -10,11 +10,13 @@ ghost use Rattle.meaning.specs.States.{value_in};
 ghost use Rattle.meaning.specs.Values.{area, known, within};
 ghost use Rattle.expressions.specs.Parts.{InIntegers};
 ghost use Rattle.expressions.specs.Products.{product_layout, multiplies, product_guard, product_cells};
+ghost use Rattle.tables.specs.Frames.{values, Fills, Lasts, Makes, Stays};
 
 use arithmetic::faults::{ElementFault, at_row};
 use elementwise::products::{dot_product, matrix_product};
 use fault::Fault;
 use meaning::{Layout, Place, Slip};
+use tables::Frame;
 use types::{Kind, Shape};
 
 fn product_layout(x: Layout, y: Layout) -> Layout
@@ -106,25 +108,21 @@ fn write_product(
 }
 
 /// The dot product of vectors, or the product of matrices.
-pub fn multiply_row(
-    place: Place,
-    a: u16,
-    b: u16,
-    slips: &[Slip],
-    integers: &mut [i32],
-) -> Result<Layout, Fault>
-    requires left { a < place.row }
-    requires right { b < place.row }
-    requires ample { place.row * place.width + place.width ≤ length integers.old }
-    ensures { InIntegers place (λ t. by2 place.width (value_in place.width slips.now t) a b multiplied) integers.old result integers.new }
+pub fn multiply_row(frame: &mut Frame, a: u16, b: u16) -> Result<Layout, Fault>
+    requires left { a < frame.old.place.row }
+    requires right { b < frame.old.place.row }
+    ensures made { Makes frame.old (by2 frame.old.place.width (values frame.old) a b multiplied) result frame.new }
+    ensures stays { Stays frame.old frame.new }
 {
-    let x = place.operand(slips, a)?;
-    let y = place.operand(slips, b)?;
+    let place = frame.place;
+    let x = frame.operand(a)?;
+    let y = frame.operand(b)?;
     let form = guard_product(place, x, y)?;
     let left = place.start_of(a);
     let right = place.start_of(b);
     let to = place.start_of(place.row);
-    let worked = write_product(x, y, integers, left, right, to);
+    let tables = &mut frame.tables;
+    let worked = write_product(x, y, tables.integers, left, right, to);
     at_row(worked, place.row, place.line)?;
     Ok(form)
 }

@@ -19,8 +19,11 @@ pub record Reach (n : ℕ) (t : Tables) : Type 0 where
 abbrev pub Holds : Place → Lent → Type 0
 Holds p t = Ample p (length t.booleans.now) (length t.characters.now) (length t.integers.now)
 
--- the tables are still those that were lent, whatever their cells hold
+-- the tables are still those that were lent, as long as they were, whatever their cells hold
 pub record Kept (t u : Lent) : Type 0 where
   pub booleans : u.booleans.ghost_name ≡ t.booleans.ghost_name
   pub characters : u.characters.ghost_name ≡ t.characters.ghost_name
   pub integers : u.integers.ghost_name ≡ t.integers.ghost_name
+  pub long_booleans : length u.booleans.now ≡ length t.booleans.now
+  pub long_characters : length u.characters.now ≡ length t.characters.now
+  pub long_integers : length u.integers.now ≡ length t.integers.now

@@ -3,9 +3,11 @@
 
 mod casts;
 mod equality;
+mod frames;
 mod indices;
 mod lent;
 mod moves;
 mod streams;
 
+pub use frames::Frame;
 pub use lent::Tables;

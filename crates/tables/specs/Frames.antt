@@ -1,0 +1,34 @@
+-- What a row leaves of what it works on.
+use Rattle.std.specs.Prelude.{◌≡◌, ℕ, Option, Result}
+use Rattle.fault.specs.declared.faults.Fault.{Fault}
+use Rattle.meaning.specs.declared.layouts.Layout.{Layout}
+use Rattle.meaning.specs.Plans.{Outcome}
+use Rattle.meaning.specs.States.{value_in}
+use Rattle.meaning.specs.Values.{Value}
+use Rattle.meaning.specs.Works.{Made, Filled}
+use Rattle.tables.specs.declared.frames.Frame.{Frame}
+use Rattle.tables.specs.Lent.{held, Kept}
+
+-- the values that rows hold
+abbrev pub values : Frame → ℕ → Option Value
+values f i = value_in f.place.width f.slips.now (held f.tables) i
+
+-- an expression row: its value in its own cells; or its fault, and its cells are free
+abbrev pub Makes : Frame → Outcome → Result Layout Fault → Frame → Type 0
+Makes f o r g = Made f.place o (held f.tables) r (held g.tables)
+
+-- a statement: a value in the cells of row i; or its fault, and nothing is written
+abbrev pub Fills : Frame → ℕ → Outcome → Result Layout Fault → Frame → Type 0
+Fills f i o r g = Filled f.place i o (held f.tables) r (held g.tables)
+
+-- the row works where it did, in the tables that it was lent
+pub record Lasts (f g : Frame) : Type 0 where
+  pub place : g.place ≡ f.place
+  pub slips : g.slips.ghost_name ≡ f.slips.ghost_name
+  pub tables : Kept f.tables g.tables
+
+-- and the slips are as they were
+pub record Stays (f g : Frame) : Type 0 where
+  pub place : g.place ≡ f.place
+  pub slips : g.slips ≡ f.slips
+  pub tables : Kept f.tables g.tables

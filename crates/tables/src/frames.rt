@@ -1,0 +1,31 @@
+//! What a row works on.
+ghost use Rattle.std.specs.Prelude.{◌≡◌, ◌<◌, true, IfOk};
+ghost use Rattle.meaning.specs.States.{layout_at};
+ghost use Rattle.meaning.specs.Values.{lawful};
+ghost use Rattle.meaning.specs.Works.{found};
+ghost use Rattle.tables.specs.Lent.{Holds};
+
+use crate::lent::Tables;
+use fault::Fault;
+use meaning::{Layout, Place, Slip};
+
+/// A row at work: where it stands, what the rows hold, and the lent tables, which have its cells. The second ghost field
+/// carries the range of the width to a reader of a frame.
+#[derive(Drop)]
+pub struct Frame<'a> {
+    pub place: Place,
+    pub slips: &'a mut [Slip],
+    pub tables: Tables<'a>,
+    ghost ample: { Holds place tables },
+    ghost width_fits: { place.width < 65536 },
+}
+
+impl Frame<'_> {
+    /// The layout of operand i; without a value there the row has no rule.
+    pub fn operand(&self, i: u16) -> Result<Layout, Fault>
+        ensures is { result ≡ found self.now.place (layout_at self.now.place.width self.now.slips.now i) }
+        ensures lawful { IfOk result (λ f. lawful self.now.place.width f ≡ true) }
+    {
+        self.place.operand(self.slips, i)
+    }
+}
