@@ -6,81 +6,69 @@ ghost use Rattle.meaning.specs.States.{value_from, value_in};
 ghost use Rattle.meaning.specs.Values.{lawful, within};
 ghost use Rattle.meaning.specs.Works.{Filled, changed};
 ghost use Rattle.changes.specs.Assigns.{assign_guard, giving, Given};
-ghost use Rattle.tables.specs.Lent.{held, Holds, Kept, Reach};
+ghost use Rattle.tables.specs.Frames.{values, Fills, Lasts, Makes, Stays};
+ghost use Rattle.tables.specs.Lent.{held, Kept, Reach};
 
 use crate::moves::{copy_down, unfold_interval};
 use expressions::lists::{is_orderly, list_at};
 use fault::{Cause, Fault};
 use meaning::{Layout, Place, Slip};
 use rules::statements::can_take;
-use tables::Tables;
+use tables::{Frame, Tables};
 use types::Shape;
 
 /// The layout of the variable x, where it may take the value y, which lies at row a.
-fn guard_assign(
-    place: Place,
-    a: u16,
-    x: Layout,
-    y: Layout,
-    tables: &Tables,
-) -> Result<Layout, Fault>
-    requires before { a < place.row }
-    requires lawful { lawful place.width y ≡ true }
-    requires ample { place.row * place.width + place.width ≤ length tables.now.integers.now }
-    ensures is { result ≡ assign_guard place tables.now.integers.now a x y }
-    ensures within { IfOk result (λ f. within place.width f.r f.s ≡ true) }
+fn guard_assign(frame: &Frame, a: u16, x: Layout, y: Layout) -> Result<Layout, Fault>
+    requires before { a < frame.now.place.row }
+    requires lawful { lawful frame.now.place.width y ≡ true }
+    ensures is { result ≡ assign_guard frame.now.place frame.now.tables.integers.now a x y }
+    ensures within { IfOk result (λ f. within frame.now.place.width f.r f.s ≡ true) }
 {
+    let place = frame.place;
     if !can_take(x.typing(), y.typing()) {
         return Err(place.fault(Cause::NoRule, 0));
     }
     if x.shape.same(y.shape) {
         return place.guard(true, true, None, x, x.matches(y));
     }
-    let list = list_at(place, a, y, tables);
+    let list = list_at(frame, a, y);
     let count = list.count();
     let agree = Shape::Scalar.same(y.shape) || count == x.s;
     place.guard(true, is_orderly(list), Some(count), x, agree)
 }
 
 /// Writes the value y of row a into the variable x of row v: its elements, a scalar into every cell, or the integers of an interval.
-fn write_value(place: Place, v: u16, a: u16, x: Layout, y: Layout, tables: &mut Tables)
-    requires before { a < place.row }
+fn write_value(frame: &mut Frame, v: u16, a: u16, x: Layout, y: Layout)
+    requires before { a < frame.old.place.row }
     requires under { v < a }
-    requires given { Given place.width tables.old.integers.now a x y }
-    requires ample { Holds place tables.old }
-    ensures value { held tables.new ≡ changed x.kind (held tables.old) (v * place.width) (λ k T. giving k x (value_from place.width (held tables.old) a y)) }
-    ensures lent { Kept tables.old tables.new }
+    requires given { Given frame.old.place.width frame.old.tables.integers.now a x y }
+    ensures value { held frame.new.tables ≡ changed x.kind (held frame.old.tables) (v * frame.old.place.width) (λ k T. giving k x (value_from frame.old.place.width (held frame.old.tables) a y)) }
+    ensures stays { Stays frame.old frame.new }
 {
+    let place = frame.place;
     let from = place.start_of(a);
     let to = place.start_of(v);
     let n = x.area(place.width);
     if x.shape.same(y.shape) {
-        copy_down(x.kind, from, n, to, tables);
+        copy_down(x.kind, from, n, to, frame.tables);
     } else if Shape::Scalar.same(y.shape) {
-        tables.spread(x.kind, from, to, n);
+        frame.tables.spread(x.kind, from, to, n);
     } else {
-        unfold_interval(tables.integers, from, to);
+        unfold_interval(frame.tables.integers, from, to);
     }
 }
 
 /// Assigns the value of row a to the variable v.
-pub fn assign_row(
-    place: Place,
-    v: u16,
-    a: u16,
-    slips: &[Slip],
-    tables: &mut Tables,
-) -> Result<Layout, Fault>
-    requires before { a < place.row }
+pub fn assign_row(frame: &mut Frame, v: u16, a: u16) -> Result<Layout, Fault>
+    requires before { a < frame.old.place.row }
     requires under { v < a }
-    requires ample { Holds place tables.old }
-    ensures filled { Filled place v (by2 place.width (value_in place.width slips.now (held tables.old)) v a assigned) (held tables.old) result (held tables.new) }
-    ensures within { IfOk result (λ f. within place.width f.r f.s ≡ true) }
-    ensures lent { Kept tables.old tables.new }
+    ensures filled { Fills frame.old v (by2 frame.old.place.width (values frame.old) v a assigned) result frame.new }
+    ensures within { IfOk result (λ f. within frame.old.place.width f.r f.s ≡ true) }
+    ensures stays { Stays frame.old frame.new }
 {
-    let x = place.operand(slips, v)?;
-    let y = place.operand(slips, a)?;
-    let form = guard_assign(place, a, x, y, tables)?;
-    write_value(place, v, a, x, y, tables);
+    let x = frame.operand(v)?;
+    let y = frame.operand(a)?;
+    let form = guard_assign(frame, a, x, y)?;
+    write_value(frame, v, a, x, y);
     Ok(form)
 }

@@ -9,14 +9,15 @@ ghost use Rattle.meaning.specs.States.{value_from, value_in};
 ghost use Rattle.meaning.specs.Values.{lawful, within};
 ghost use Rattle.meaning.specs.Works.{Filled, guarded, changed};
 ghost use Rattle.changes.specs.Declares.{fills, begins, layout_for, room_for, declare_guard, Begun, beginning};
-ghost use Rattle.tables.specs.Lent.{held, Holds, Kept, Reach};
+ghost use Rattle.tables.specs.Frames.{values, Fills, Lasts, Makes, Stays};
+ghost use Rattle.tables.specs.Lent.{held, Kept, Reach};
 
 use crate::moves::unfold_padded;
 use expressions::lists::{is_orderly, list_at};
 use fault::{Cause, Fault};
 use meaning::{Layout, Place, Slip};
 use rules::statements::can_take;
-use tables::Tables;
+use tables::{Frame, Tables};
 use types::{Shape, Size, Typing};
 
 /// The written size, or n where none is written.
@@ -44,16 +45,17 @@ fn guard_nulls(place: Place, w: Typing) -> Result<Layout, Fault>
 }
 
 /// A variable of nulls.
-pub fn declare_nulls(place: Place, w: Typing, tables: &mut Tables) -> Result<Layout, Fault>
-    requires { Holds place tables.old }
-    ensures filled { Filled place place.row (outcome place.width (nulls w)) (held tables.old) result (held tables.new) }
-    ensures within { IfOk result (λ f. within place.width f.r f.s ≡ true) }
-    ensures lent { Kept tables.old tables.new }
+pub fn declare_nulls(frame: &mut Frame, w: Typing) -> Result<Layout, Fault>
+    requires { Holds frame.old.place frame.old.tables }
+    ensures filled { Fills frame.old frame.old.place.row (outcome frame.old.place.width (nulls w)) result frame.new }
+    ensures within { IfOk result (λ f. within frame.old.place.width f.r f.s ≡ true) }
+    ensures stays { Stays frame.old frame.new }
 {
+    let place = frame.place;
     let form = guard_nulls(place, w)?;
     let to = place.start_of(place.row);
     let n = form.r * form.s;
-    tables.fill_nulls(form.kind, to, n);
+    frame.tables.fill_nulls(form.kind, to, n);
     Ok(form)
 }
 
@@ -101,19 +103,13 @@ fn has_room(w: Typing, y: Layout, columns: usize) -> bool
 }
 
 /// The layout of a variable of the written type, where it may begin with the value y, which lies at row a.
-fn guard_declare(
-    place: Place,
-    w: Typing,
-    a: u16,
-    y: Layout,
-    tables: &Tables,
-) -> Result<Layout, Fault>
-    requires before { a < place.row }
-    requires lawful { lawful place.width y ≡ true }
-    requires ample { place.row * place.width + place.width ≤ length tables.now.integers.now }
-    ensures is { result ≡ declare_guard place tables.now.integers.now a w y }
-    ensures within { IfOk result (λ f. within place.width f.r f.s ≡ true) }
+fn guard_declare(frame: &Frame, w: Typing, a: u16, y: Layout) -> Result<Layout, Fault>
+    requires before { a < frame.now.place.row }
+    requires lawful { lawful frame.now.place.width y ≡ true }
+    ensures is { result ≡ declare_guard frame.now.place frame.now.tables.integers.now a w y }
+    ensures within { IfOk result (λ f. within frame.now.place.width f.r f.s ≡ true) }
 {
+    let place = frame.place;
     if !can_begin(w, y) {
         return Err(place.fault(Cause::NoRule, 0));
     }
@@ -121,7 +117,7 @@ fn guard_declare(
         let layout = layout_for(w, y, y.s);
         return place.guard(true, true, None, layout, has_room(w, y, y.s));
     }
-    let list = list_at(place, a, y, tables);
+    let list = list_at(frame, a, y);
     let count = list.count();
     let layout = layout_for(w, y, count);
     let agree = Shape::Scalar.same(y.shape) || has_room(w, y, count);
@@ -130,40 +126,35 @@ fn guard_declare(
 
 /// Writes the value y of row a into the cells of the row: padded with nulls, a scalar into every cell, or the integers of an
 /// interval with nulls behind them.
-fn write_beginning(place: Place, w: Typing, a: u16, y: Layout, form: Layout, tables: &mut Tables)
-    requires before { a < place.row }
-    requires begun { Begun place.width tables.old.integers.now a w y form }
-    requires ample { Holds place tables.old }
-    ensures value { held tables.new ≡ changed w.kind (held tables.old) (place.row * place.width) (λ k T. beginning k w form (value_from place.width (held tables.old) a y)) }
-    ensures lent { Kept tables.old tables.new }
+fn write_beginning(frame: &mut Frame, w: Typing, a: u16, y: Layout, form: Layout)
+    requires before { a < frame.old.place.row }
+    requires begun { Begun frame.old.place.width frame.old.tables.integers.now a w y form }
+    ensures value { held frame.new.tables ≡ changed w.kind (held frame.old.tables) (frame.old.place.row * frame.old.place.width) (λ k T. beginning k w form (value_from frame.old.place.width (held frame.old.tables) a y)) }
+    ensures stays { Stays frame.old frame.new }
 {
+    let place = frame.place;
     let from = place.start_of(a);
     let to = place.start_of(place.row);
     if w.shape.same(y.shape) {
-        tables.resize_matrix(w.kind, from, y.r, y.s, to, form.r, form.s);
+        frame
+            .tables
+            .resize_matrix(w.kind, from, y.r, y.s, to, form.r, form.s);
     } else if Shape::Scalar.same(y.shape) {
-        tables.spread(w.kind, from, to, form.r * form.s);
+        frame.tables.spread(w.kind, from, to, form.r * form.s);
     } else {
-        unfold_padded(tables.integers, from, to, form.r * form.s);
+        unfold_padded(frame.tables.integers, from, to, form.r * form.s);
     }
 }
 
 /// A variable of the written type that begins with the value of row a.
-pub fn declare_row(
-    place: Place,
-    w: Typing,
-    a: u16,
-    slips: &[Slip],
-    tables: &mut Tables,
-) -> Result<Layout, Fault>
-    requires before { a < place.row }
-    requires ample { Holds place tables.old }
-    ensures filled { Filled place place.row (by1 place.width (value_in place.width slips.now (held tables.old)) a (declared w)) (held tables.old) result (held tables.new) }
-    ensures within { IfOk result (λ f. within place.width f.r f.s ≡ true) }
-    ensures lent { Kept tables.old tables.new }
+pub fn declare_row(frame: &mut Frame, w: Typing, a: u16) -> Result<Layout, Fault>
+    requires before { a < frame.old.place.row }
+    ensures filled { Fills frame.old frame.old.place.row (by1 frame.old.place.width (values frame.old) a (declared w)) result frame.new }
+    ensures within { IfOk result (λ f. within frame.old.place.width f.r f.s ≡ true) }
+    ensures stays { Stays frame.old frame.new }
 {
-    let y = place.operand(slips, a)?;
-    let form = guard_declare(place, w, a, y, tables)?;
-    write_beginning(place, w, a, y, form, tables);
+    let y = frame.operand(a)?;
+    let form = guard_declare(frame, w, a, y)?;
+    write_beginning(frame, w, a, y, form);
     Ok(form)
 }

@@ -9,14 +9,15 @@ ghost use Rattle.meaning.specs.States.{value_in};
 ghost use Rattle.meaning.specs.Values.{null_of, lawful, within};
 ghost use Rattle.meaning.specs.Works.{Filled, guards, changed, Chosen};
 ghost use Rattle.changes.specs.Stores.{stores, stores_two, store_guard, values_at};
-ghost use Rattle.tables.specs.Lent.{held, Holds, Kept, Reach};
+ghost use Rattle.tables.specs.Frames.{values, Fills, Lasts, Makes, Stays};
+ghost use Rattle.tables.specs.Lent.{held, Kept, Reach};
 
 use expressions::answers::answer;
 use expressions::lists::{is_orderly, list_at};
 use fault::{Cause, Fault};
 use meaning::{Layout, Place, Slip};
 use picks::{Outside, Values};
-use tables::Tables;
+use tables::{Frame, Tables};
 use types::{Kind, Shape};
 
 /// Whether a value may be stored at an index of a vector: a scalar, or at several places a vector.
@@ -31,24 +32,17 @@ fn can_store(x: Layout, y: Layout, z: Layout) -> bool
 }
 
 /// The layout of the variable x, where the value z may be stored at the index y, which lies at row b.
-fn guard_store(
-    place: Place,
-    b: u16,
-    x: Layout,
-    y: Layout,
-    z: Layout,
-    tables: &Tables,
-) -> Result<Layout, Fault>
-    requires before { b < place.row }
-    requires lawful { lawful place.width y ≡ true }
-    requires ample { place.row * place.width + place.width ≤ length tables.now.integers.now }
-    ensures is { result ≡ store_guard place tables.now.integers.now b x y z }
-    ensures within { IfOk result (λ f. within place.width f.r f.s ≡ true) }
+fn guard_store(frame: &Frame, b: u16, x: Layout, y: Layout, z: Layout) -> Result<Layout, Fault>
+    requires before { b < frame.now.place.row }
+    requires lawful { lawful frame.now.place.width y ≡ true }
+    ensures is { result ≡ store_guard frame.now.place frame.now.tables.integers.now b x y z }
+    ensures within { IfOk result (λ f. within frame.now.place.width f.r f.s ≡ true) }
 {
+    let place = frame.place;
     if !can_store(x, y, z) {
         return Err(place.fault(Cause::NoRule, 0));
     }
-    let index = list_at(place, b, y, tables);
+    let index = list_at(frame, b, y);
     let count = index.count();
     let agree = Shape::Scalar.same(z.shape) || count == z.s;
     place.guard(true, is_orderly(index), Some(count), x, agree)
@@ -65,31 +59,24 @@ fn values_at(place: Place, c: u16, z: Layout) -> Values
 }
 
 /// Stores the value of row c into the vector v, at the indices that row b holds.
-pub fn store_row(
-    place: Place,
-    v: u16,
-    b: u16,
-    c: u16,
-    slips: &[Slip],
-    tables: &mut Tables,
-) -> Result<Layout, Fault>
-    requires index { b < place.row }
-    requires value { c < place.row }
+pub fn store_row(frame: &mut Frame, v: u16, b: u16, c: u16) -> Result<Layout, Fault>
+    requires index { b < frame.old.place.row }
+    requires value { c < frame.old.place.row }
     requires under_index { v < b }
     requires under_value { v < c }
-    requires ample { Holds place tables.old }
-    ensures filled { Filled place v (by3 place.width (value_in place.width slips.now (held tables.old)) v b c stored_at) (held tables.old) result (held tables.new) }
-    ensures within { IfOk result (λ f. within place.width f.r f.s ≡ true) }
-    ensures lent { Kept tables.old tables.new }
+    ensures filled { Fills frame.old v (by3 frame.old.place.width (values frame.old) v b c stored_at) result frame.new }
+    ensures within { IfOk result (λ f. within frame.old.place.width f.r f.s ≡ true) }
+    ensures stays { Stays frame.old frame.new }
 {
-    let x = place.operand(slips, v)?;
-    let y = place.operand(slips, b)?;
-    let z = place.operand(slips, c)?;
-    let form = guard_store(place, b, x, y, z, tables)?;
+    let place = frame.place;
+    let x = frame.operand(v)?;
+    let y = frame.operand(b)?;
+    let z = frame.operand(c)?;
+    let form = guard_store(frame, b, x, y, z)?;
     let to = place.start_of(v);
-    let index = list_at(place, b, y, tables);
+    let index = list_at(frame, b, y);
     let values = values_at(place, c, z);
-    let stored = tables.store(form.kind, to, form.s, index, values);
+    let stored = frame.tables.store(form.kind, to, form.s, index, values);
     answer(place, form, stored)
 }
 
@@ -134,33 +121,34 @@ fn guard_store_two(
 }
 
 /// Stores the scalar of row d into the matrix v, at the row and the column that rows b and c hold.
-pub fn store_two_row(
-    place: Place,
-    v: u16,
-    b: u16,
-    c: u16,
-    d: u16,
-    slips: &[Slip],
-    tables: &mut Tables,
-) -> Result<Layout, Fault>
-    requires row { b < place.row }
-    requires column { c < place.row }
-    requires value { d < place.row }
-    requires before { v < place.row }
-    requires ample { Holds place tables.old }
-    ensures filled { Filled place v (with (value_in place.width slips.now (held tables.old) v) (λ x. by3 place.width (value_in place.width slips.now (held tables.old)) b c d (stored_at_two x))) (held tables.old) result (held tables.new) }
-    ensures within { IfOk result (λ f. within place.width f.r f.s ≡ true) }
-    ensures lent { Kept tables.old tables.new }
+pub fn store_two_row(frame: &mut Frame, v: u16, b: u16, c: u16, d: u16) -> Result<Layout, Fault>
+    requires row { b < frame.old.place.row }
+    requires column { c < frame.old.place.row }
+    requires value { d < frame.old.place.row }
+    requires before { v < frame.old.place.row }
+    ensures filled { Fills frame.old v (with (value_in frame.old.place.width frame.old.slips.now (held frame.old.tables) v) (λ x. by3 frame.old.place.width (values frame.old) b c d (stored_at_two x))) result frame.new }
+    ensures within { IfOk result (λ f. within frame.old.place.width f.r f.s ≡ true) }
+    ensures stays { Stays frame.old frame.new }
 {
-    let x = place.operand(slips, v)?;
-    let y = place.operand(slips, b)?;
-    let z = place.operand(slips, c)?;
-    let w = place.operand(slips, d)?;
+    let place = frame.place;
+    let x = frame.operand(v)?;
+    let y = frame.operand(b)?;
+    let z = frame.operand(c)?;
+    let w = frame.operand(d)?;
     let form = guard_store_two(place, x, y, z, w)?;
     let to = place.start_of(v);
     let row = place.start_of(b);
     let column = place.start_of(c);
     let from = place.start_of(d);
-    let stored = store_at_cells(form.kind, to, form.r, form.s, row, column, from, tables);
+    let stored = store_at_cells(
+        form.kind,
+        to,
+        form.r,
+        form.s,
+        row,
+        column,
+        from,
+        frame.tables,
+    );
     answer(place, form, stored)
 }

@@ -3,7 +3,8 @@ ghost use Rattle.std.specs.Prelude.{ℕ, ◌+◌, ◌*◌, ◌<◌, ◌≤◌, l
 ghost use Rattle.meaning.specs.States.{value_in};
 ghost use Rattle.meaning.specs.Works.{Made};
 ghost use Rattle.meaning.specs.Expressions.{by1, by2, prefixed, infixed, measured};
-ghost use Rattle.tables.specs.Lent.{held, Holds, Kept, Reach};
+ghost use Rattle.tables.specs.Frames.{values, Fills, Lasts, Makes, Stays};
+ghost use Rattle.tables.specs.Lent.{held, Kept, Reach};
 
 use arithmetic::operators::Prefix;
 use expressions::builds::join_row;
@@ -17,76 +18,50 @@ use instruction::{Infix, Measure};
 use meaning::{Layout, Place, Slip};
 use selections::equalities::equate_row;
 use selections::stepping::step_row;
-use tables::Tables;
+use tables::{Frame, Tables};
 
 /// A row with an operator before one value.
-pub fn prefix_row(
-    place: Place,
-    op: Prefix,
-    a: u16,
-    slips: &[Slip],
-    tables: &mut Tables,
-) -> Result<Layout, Fault>
-    requires before { a < place.row }
-    requires ample { Holds place tables.old }
-    ensures value { Made place (by1 place.width (value_in place.width slips.now (held tables.old)) a (prefixed op)) (held tables.old) result (held tables.new) }
-    ensures lent { Kept tables.old tables.new }
+pub fn prefix_row(frame: &mut Frame, op: Prefix, a: u16) -> Result<Layout, Fault>
+    requires before { a < frame.old.place.row }
+    ensures made { Makes frame.old (by1 frame.old.place.width (values frame.old) a (prefixed op)) result frame.new }
+    ensures stays { Stays frame.old frame.new }
 {
     match op {
-        Prefix::Minus => negate_row(place, a, slips, tables.integers),
-        Prefix::Not => not_row(place, a, slips, tables.booleans),
+        Prefix::Minus => negate_row(frame, a),
+        Prefix::Not => not_row(frame, a),
     }
 }
 
 /// A row with an operator between two values.
-pub fn infix_row(
-    place: Place,
-    op: Infix,
-    a: u16,
-    b: u16,
-    slips: &[Slip],
-    tables: &mut Tables,
-) -> Result<Layout, Fault>
-    requires wide { 1 < place.width }
-    requires left { a < place.row }
-    requires right { b < place.row }
-    requires ample { Holds place tables.old }
-    ensures value { Made place (by2 place.width (value_in place.width slips.now (held tables.old)) a b (infixed op)) (held tables.old) result (held tables.new) }
-    ensures lent { Kept tables.old tables.new }
+pub fn infix_row(frame: &mut Frame, op: Infix, a: u16, b: u16) -> Result<Layout, Fault>
+    requires wide { 1 < frame.old.place.width }
+    requires left { a < frame.old.place.row }
+    requires right { b < frame.old.place.row }
+    ensures made { Makes frame.old (by2 frame.old.place.width (values frame.old) a b (infixed op)) result frame.new }
+    ensures stays { Stays frame.old frame.new }
 {
     match op {
-        Infix::Arithmetic(op) => calculate_row(place, op, a, b, slips, tables.integers),
-        Infix::Order(op) => {
-            let integers = &mut *tables.integers;
-            let booleans = &mut *tables.booleans;
-            compare_row(place, op, a, b, slips, integers, booleans)
-        }
-        Infix::Logic(op) => decide_row(place, op, a, b, slips, tables.booleans),
-        Infix::Equality(op) => equate_row(place, op, a, b, slips, tables),
-        Infix::Join => join_row(place, a, b, slips, tables),
-        Infix::Product => multiply_row(place, a, b, slips, tables.integers),
-        Infix::By => step_row(place, a, b, slips, tables),
+        Infix::Arithmetic(op) => calculate_row(frame, op, a, b),
+        Infix::Order(op) => { compare_row(frame, op, a, b) }
+        Infix::Logic(op) => decide_row(frame, op, a, b),
+        Infix::Equality(op) => equate_row(frame, op, a, b),
+        Infix::Join => join_row(frame, a, b),
+        Infix::Product => multiply_row(frame, a, b),
+        Infix::By => step_row(frame, a, b),
     }
 }
 
 /// A row that asks for a size, or makes a vector of a vector or scalar.
-pub fn measure_row(
-    place: Place,
-    asked: Measure,
-    a: u16,
-    slips: &[Slip],
-    tables: &mut Tables,
-) -> Result<Layout, Fault>
-    requires before { a < place.row }
-    requires ample { Holds place tables.old }
-    ensures value { Made place (by1 place.width (value_in place.width slips.now (held tables.old)) a (measured asked)) (held tables.old) result (held tables.new) }
-    ensures lent { Kept tables.old tables.new }
+pub fn measure_row(frame: &mut Frame, asked: Measure, a: u16) -> Result<Layout, Fault>
+    requires before { a < frame.old.place.row }
+    ensures made { Makes frame.old (by1 frame.old.place.width (values frame.old) a (measured asked)) result frame.new }
+    ensures stays { Stays frame.old frame.new }
 {
     match asked {
-        Measure::Length => length_row(place, a, slips, tables.integers),
-        Measure::Rows => rows_row(place, a, slips, tables.integers),
-        Measure::Columns => columns_row(place, a, slips, tables.integers),
-        Measure::Reverse => reverse_row(place, a, slips, tables),
-        Measure::Single => single_row(place, a, slips, tables),
+        Measure::Length => length_row(frame, a),
+        Measure::Rows => rows_row(frame, a),
+        Measure::Columns => columns_row(frame, a),
+        Measure::Reverse => reverse_row(frame, a),
+        Measure::Single => single_row(frame, a),
     }
 }

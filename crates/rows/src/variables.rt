@@ -7,7 +7,8 @@ ghost use Rattle.meaning.specs.Values.{within};
 ghost use Rattle.meaning.specs.Works.{Filled};
 ghost use Rattle.statements.specs.Frames.{InTables, settled};
 ghost use Rattle.rows.specs.Changing.{StartsAfter, start_outcome, beginning, changing, begun};
-ghost use Rattle.tables.specs.Lent.{held, Holds, Kept, Reach};
+ghost use Rattle.tables.specs.Frames.{values, Fills, Lasts, Makes, Stays};
+ghost use Rattle.tables.specs.Lent.{held, Kept, Reach};
 
 use changes::assigns::assign_row;
 use changes::declares::{declare_nulls, declare_row};
@@ -15,7 +16,7 @@ use changes::stores::{store_row, store_two_row};
 use fault::Fault;
 use instruction::Start;
 use meaning::{After, Layout, Place, Slip};
-use tables::Tables;
+use tables::{Frame, Tables};
 use types::Typing as Type;
 
 /// The row after a statement is next, unless the statement faulted.
@@ -41,101 +42,67 @@ fn note(place: Place, res: Result<Layout, Fault>, slips: &mut [Slip])
 }
 
 /// Writes what a declaration gives to its variable.
-fn begin(
-    place: Place,
-    w: Type,
-    start: Start,
-    slips: &[Slip],
-    tables: &mut Tables,
-) -> Result<Layout, Fault>
-    requires before { StartsAfter place.row start }
-    requires ample { Holds place tables.old }
-    ensures filled { Filled place place.row (start_outcome place.width (value_in place.width slips.now (held tables.old)) w start) (held tables.old) result (held tables.new) }
-    ensures within { IfOk result (λ f. within place.width f.r f.s ≡ true) }
-    ensures lent { Kept tables.old tables.new }
+fn begin(frame: &mut Frame, w: Type, start: Start) -> Result<Layout, Fault>
+    requires before { StartsAfter frame.old.place.row start }
+    ensures filled { Fills frame.old frame.old.place.row (start_outcome frame.old.place.width (values frame.old) w start) result frame.new }
+    ensures within { IfOk result (λ f. within frame.old.place.width f.r f.s ≡ true) }
+    ensures stays { Stays frame.old frame.new }
 {
     match start {
-        Start::Nulls => declare_nulls(place, w, tables),
-        Start::Value(a) => declare_row(place, w, a, slips, tables),
+        Start::Nulls => declare_nulls(frame, w),
+        Start::Value(a) => declare_row(frame, w, a),
     }
 }
 
 /// A declaration: the variable takes nulls or a value.
-pub fn declare(
-    place: Place,
-    w: Type,
-    start: Start,
-    slips: &mut [Slip],
-    tables: &mut Tables,
-) -> Result<After, Fault>
-    requires before { StartsAfter place.row start }
-    requires row { place.row < length slips.old }
-    requires ample { Holds place tables.old }
-    ensures value { InTables (beginning place w start) slips.old (held tables.old) result slips.new (held tables.new) }
-    ensures lent { Kept tables.old tables.new }
+pub fn declare(frame: &mut Frame, w: Type, start: Start) -> Result<After, Fault>
+    requires before { StartsAfter frame.old.place.row start }
+    requires row { frame.old.place.row < length frame.old.slips.now }
+    ensures value { InTables (beginning frame.old.place w start) frame.old.slips.now (held frame.old.tables) result frame.new.slips.now (held frame.new.tables) }
+    ensures lasts { Lasts frame.old frame.new }
 {
-    let declared = begin(place, w, start, slips, tables);
-    note(place, declared, slips);
+    let place = frame.place;
+    let declared = begin(frame, w, start);
+    note(place, declared, frame.slips);
     proceed(place, declared)
 }
 
 /// An assignment of row a to variable v.
-pub fn assign(
-    place: Place,
-    v: u16,
-    a: u16,
-    slips: &[Slip],
-    tables: &mut Tables,
-) -> Result<After, Fault>
-    requires before { a < place.row }
+pub fn assign(frame: &mut Frame, v: u16, a: u16) -> Result<After, Fault>
+    requires before { a < frame.old.place.row }
     requires under { v < a }
-    requires ample { Holds place tables.old }
-    ensures value { (head : Typing) → InTables (changing place head (Assign v a)) slips.now (held tables.old) result slips.now (held tables.new) }
-    ensures lent { Kept tables.old tables.new }
+    ensures value { (head : Typing) → InTables (changing frame.old.place head (Assign v a)) frame.old.slips.now (held frame.old.tables) result frame.old.slips.now (held frame.new.tables) }
+    ensures stays { Stays frame.old frame.new }
 {
-    let assigned = assign_row(place, v, a, slips, tables);
+    let place = frame.place;
+    let assigned = assign_row(frame, v, a);
     proceed(place, assigned)
 }
 
 /// A store of row c in vector v at the index of row b.
-pub fn store(
-    place: Place,
-    v: u16,
-    b: u16,
-    c: u16,
-    slips: &[Slip],
-    tables: &mut Tables,
-) -> Result<After, Fault>
-    requires index { b < place.row }
-    requires value { c < place.row }
+pub fn store(frame: &mut Frame, v: u16, b: u16, c: u16) -> Result<After, Fault>
+    requires index { b < frame.old.place.row }
+    requires value { c < frame.old.place.row }
     requires under_index { v < b }
     requires under_value { v < c }
-    requires ample { Holds place tables.old }
-    ensures value { (head : Typing) → InTables (changing place head (Store v b c)) slips.now (held tables.old) result slips.now (held tables.new) }
-    ensures lent { Kept tables.old tables.new }
+    ensures value { (head : Typing) → InTables (changing frame.old.place head (Store v b c)) frame.old.slips.now (held frame.old.tables) result frame.old.slips.now (held frame.new.tables) }
+    ensures stays { Stays frame.old frame.new }
 {
-    let stored = store_row(place, v, b, c, slips, tables);
+    let place = frame.place;
+    let stored = store_row(frame, v, b, c);
     proceed(place, stored)
 }
 
 /// A store of row d in matrix v at the row of row b and the column of row c.
-pub fn store_two(
-    place: Place,
-    v: u16,
-    b: u16,
-    c: u16,
-    d: u16,
-    slips: &[Slip],
-    tables: &mut Tables,
-) -> Result<After, Fault>
-    requires row { b < place.row }
-    requires column { c < place.row }
-    requires value { d < place.row }
-    requires before { v < place.row }
-    requires ample { Holds place tables.old }
-    ensures value { (head : Typing) → InTables (changing place head (StoreTwo v b c d)) slips.now (held tables.old) result slips.now (held tables.new) }
-    ensures lent { Kept tables.old tables.new }
+pub fn store_two(frame: &mut Frame, v: u16, b: u16, c: u16, d: u16) -> Result<After, Fault>
+    requires row { b < frame.old.place.row }
+    requires column { c < frame.old.place.row }
+    requires value { d < frame.old.place.row }
+    requires before { v < frame.old.place.row }
+    ensures value { (head : Typing) → InTables (changing frame.old.place head (StoreTwo v b c d)) frame.old.slips.now (held frame.old.tables) result frame.old.slips.now (held frame.new.tables) }
+    ensures stays { Stays frame.old frame.new }
 {
-    let stored = store_two_row(place, v, b, c, d, slips, tables);
+    let place = frame.place;
+    let stored = store_two_row(frame, v, b, c, d);
     proceed(place, stored)
 }

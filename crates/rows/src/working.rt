@@ -6,7 +6,8 @@ ghost use Rattle.meaning.specs.Acts.{Acts};
 ghost use Rattle.laws.specs.Reads.{make_reads, AllUnder};
 ghost use Rattle.statements.specs.Frames.{state_of};
 ghost use Rattle.rows.specs.Working.{Expresses};
-ghost use Rattle.tables.specs.Lent.{held, Holds, Kept, Reach};
+ghost use Rattle.tables.specs.Frames.{values, Fills, Lasts, Makes, Stays};
+ghost use Rattle.tables.specs.Lent.{held, Kept, Reach};
 
 use crate::changing::change_row;
 use checker::Line;
@@ -17,7 +18,7 @@ use meaning::{After, Place, Slip};
 use source::{Source, StreamState};
 use statements::control::control_row;
 use statements::settle::settle;
-use tables::Tables;
+use tables::{Frame, Tables};
 use types::Typing;
 
 /// What check passed at a row.
@@ -29,61 +30,46 @@ fn line_of(lines: &[Line], row: u16) -> Line
 }
 
 /// An expression row: its value in its cells and its layout in its slip, or its fault and a blank slip.
-fn express(
-    place: Place,
-    expression: Expression,
-    stream: StreamState,
-    slips: &mut [Slip],
-    tables: &mut Tables,
-) -> Result<After, Fault>
-    requires wide { 1 < place.width }
-    requires reads { AllUnder place.row (make_reads expression) }
-    requires row { place.row < length slips.old }
-    requires ample { Holds place tables.old }
-    ensures value { Expresses place expression stream slips.old (held tables.old) result slips.new (held tables.new) }
-    ensures lent { Kept tables.old tables.new }
+fn express(frame: &mut Frame, expression: Expression, stream: StreamState) -> Result<After, Fault>
+    requires wide { 1 < frame.old.place.width }
+    requires reads { AllUnder frame.old.place.row (make_reads expression) }
+    requires row { frame.old.place.row < length frame.old.slips.now }
+    ensures value { Expresses frame.old.place expression stream frame.old.slips.now (held frame.old.tables) result frame.new.slips.now (held frame.new.tables) }
+    ensures lasts { Lasts frame.old frame.new }
 {
-    let made = evaluate(place, expression, stream, slips, tables);
-    settle(place, made, slips)
+    let place = frame.place;
+    let made = evaluate(frame, expression, stream);
+    settle(place, made, frame.slips)
 }
 
 /// Works one row of the sheet that has these lines and this type of its result: where the sheet goes on, or the row's fault.
 pub fn work<S: Source>(
-    place: Place,
+    frame: &mut Frame,
     lines: &[Line],
     head: Typing,
-    slips: &mut [Slip],
-    tables: &mut Tables,
     source: &mut S,
     taken: &mut u32,
     stream: &mut StreamState,
     output: &mut [u8],
     printed: &mut usize,
 ) -> Result<After, Fault>
-    requires sheet { Structured lines.now place.width head }
-    requires inside { place.row < length lines.now }
-    requires wide { 1 < place.width }
-    requires width { place.width ≤ 1024 }
-    requires row { place.row < length slips.old }
+    requires sheet { Structured lines.now frame.old.place.width head }
+    requires inside { frame.old.place.row < length lines.now }
+    requires wide { 1 < frame.old.place.width }
+    requires width { frame.old.place.width ≤ 1024 }
+    requires row { frame.old.place.row < length frame.old.slips.now }
     requires room { printed.old ≤ length output.old }
-    requires ample { Holds place tables.old }
-    ensures acts { Acts place.width place.row place.line (state_of taken.old stream.old slips.old (held tables.old) (S.waiting source.old) output.old printed.old) head lines.now (at lines.now place.row).target (at lines.now place.row).instruction result (state_of taken.new stream.new slips.new (held tables.new) (S.waiting source.new) output.new printed.new) }
+    ensures acts { Acts frame.old.place.width frame.old.place.row frame.old.place.line (state_of taken.old stream.old frame.old.slips.now (held frame.old.tables) (S.waiting source.old) output.old printed.old) head lines.now (at lines.now frame.old.place.row).target (at lines.now frame.old.place.row).instruction result (state_of taken.new stream.new frame.new.slips.now (held frame.new.tables) (S.waiting source.new) output.new printed.new) }
     ensures room { printed.new ≤ length output.new }
-    ensures lent { Kept tables.old tables.new }
+    ensures lasts { Lasts frame.old frame.new }
 {
+    let place = frame.place;
     let line = line_of(lines, place.row);
     match line.instruction {
-        Instruction::Expression(expression) => express(place, expression, *stream, slips, tables),
+        Instruction::Expression(expression) => express(frame, expression, *stream),
         Instruction::Change(change) => change_row(
-            place, head, change, slips, tables, source, taken, stream, output, printed,
+            frame, head, change, source, taken, stream, output, printed,
         ),
-        Instruction::Control(control) => control_row(
-            place,
-            lines,
-            control,
-            line.target,
-            slips,
-            tables,
-        ),
+        Instruction::Control(control) => control_row(frame, lines, control, line.target),
     }
 }

@@ -5,14 +5,15 @@ ghost use Rattle.meaning.specs.States.{value_in};
 ghost use Rattle.meaning.specs.Values.{within};
 ghost use Rattle.meaning.specs.Works.{Made};
 ghost use Rattle.selections.specs.Choices.{cross_guard, cross_layout};
-ghost use Rattle.tables.specs.Lent.{held, Holds, Kept, Reach};
+ghost use Rattle.tables.specs.Frames.{values, Fills, Lasts, Makes, Stays};
+ghost use Rattle.tables.specs.Lent.{held, Kept, Reach};
 
 use expressions::answers::answer;
 use expressions::lists::{is_orderly, list_at};
 use fault::Fault;
 use meaning::{Layout, Place, Slip};
 use picks::Index;
-use tables::Tables;
+use tables::{Frame, Tables};
 use types::{Kind, Shape};
 
 /// The shape of what is picked: an index that is a scalar, of a row or of a column, drops a dimension.
@@ -72,30 +73,25 @@ fn guard_cross(
 }
 
 /// The elements of a matrix where the rows that one index names cross the columns that another names.
-pub fn pick_two_row(
-    place: Place,
-    a: u16,
-    b: u16,
-    c: u16,
-    slips: &[Slip],
-    tables: &mut Tables,
-) -> Result<Layout, Fault>
-    requires wide { 1 < place.width }
-    requires whole { a < place.row }
-    requires row { b < place.row }
-    requires column { c < place.row }
-    requires ample { Holds place tables.old }
-    ensures value { Made place (by3 place.width (value_in place.width slips.now (held tables.old)) a b c pick_two) (held tables.old) result (held tables.new) }
-    ensures lent { Kept tables.old tables.new }
+pub fn pick_two_row(frame: &mut Frame, a: u16, b: u16, c: u16) -> Result<Layout, Fault>
+    requires wide { 1 < frame.old.place.width }
+    requires whole { a < frame.old.place.row }
+    requires row { b < frame.old.place.row }
+    requires column { c < frame.old.place.row }
+    ensures made { Makes frame.old (by3 frame.old.place.width (values frame.old) a b c pick_two) result frame.new }
+    ensures stays { Stays frame.old frame.new }
 {
-    let x = place.operand(slips, a)?;
-    let y = place.operand(slips, b)?;
-    let z = place.operand(slips, c)?;
-    let rows = list_at(place, b, y, tables);
-    let columns = list_at(place, c, z, tables);
+    let place = frame.place;
+    let x = frame.operand(a)?;
+    let y = frame.operand(b)?;
+    let z = frame.operand(c)?;
+    let rows = list_at(frame, b, y);
+    let columns = list_at(frame, c, z);
     let form = guard_cross(place, x, y, z, rows, columns)?;
     let from = place.start_of(a);
     let to = place.start_of(place.row);
-    let picked = tables.pick_matrix(x.kind, from, x.r, x.s, rows, columns, to);
+    let picked = frame
+        .tables
+        .pick_matrix(x.kind, from, x.r, x.s, rows, columns, to);
     answer(place, form, picked)
 }

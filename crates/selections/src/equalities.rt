@@ -6,12 +6,13 @@ ghost use Rattle.meaning.specs.States.{value_in};
 ghost use Rattle.meaning.specs.Values.{lawful};
 ghost use Rattle.meaning.specs.Works.{Made};
 ghost use Rattle.selections.specs.Equalities.{equates, equate_guard, same_at};
-ghost use Rattle.tables.specs.Lent.{held, Holds, Kept, Reach};
+ghost use Rattle.tables.specs.Frames.{values, Fills, Lasts, Makes, Stays};
+ghost use Rattle.tables.specs.Lent.{held, Kept, Reach};
 
 use fault::Fault;
 use instruction::Equality;
 use meaning::{Layout, Place, Slip};
-use tables::Tables;
+use tables::{Frame, Tables};
 use types::{Kind, Shape};
 
 /// Whether values of these layouts may be compared: of one kind, element by element, or two intervals.
@@ -35,24 +36,26 @@ fn guard_equate(place: Place, x: Layout, y: Layout) -> Result<Layout, Fault>
 }
 
 /// Whether the values of layouts x at row a and y at row b have the same elements, a scalar spread over the other.
-fn are_equal(place: Place, a: u16, b: u16, x: Layout, y: Layout, tables: &Tables) -> bool
-    requires wide { 1 < place.width }
-    requires left { a < place.row }
-    requires right { b < place.row }
-    requires left_lawful { lawful place.width x ≡ true }
-    requires right_lawful { lawful place.width y ≡ true }
-    requires ample { Holds place tables.now }
-    ensures { result ≡ same_at (held tables.now) x y (a * place.width) (b * place.width) }
+fn are_equal(frame: &Frame, a: u16, b: u16, x: Layout, y: Layout) -> bool
+    requires wide { 1 < frame.now.place.width }
+    requires left { a < frame.now.place.row }
+    requires right { b < frame.now.place.row }
+    requires left_lawful { lawful frame.now.place.width x ≡ true }
+    requires right_lawful { lawful frame.now.place.width y ≡ true }
+    ensures { result ≡ same_at (held frame.now.tables) x y (a * frame.now.place.width) (b * frame.now.place.width) }
 {
+    let place = frame.place;
     let left = place.start_of(a);
     let right = place.start_of(b);
     let many = x.area(place.width);
     if Shape::Scalar.same(y.shape) {
-        tables.equal_throughout(x.kind, left, many, right)
+        frame.tables.equal_throughout(x.kind, left, many, right)
     } else if Shape::Scalar.same(x.shape) {
-        tables.equal_throughout(x.kind, right, y.area(place.width), left)
+        frame
+            .tables
+            .equal_throughout(x.kind, right, y.area(place.width), left)
     } else {
-        tables.equal(x.kind, left, right, many)
+        frame.tables.equal(x.kind, left, right, many)
     }
 }
 
@@ -75,25 +78,19 @@ fn write_truth(booleans: &mut [bool], truth: bool, to: usize)
 }
 
 /// Whether two values are equal, or unequal: one boolean.
-pub fn equate_row(
-    place: Place,
-    op: Equality,
-    a: u16,
-    b: u16,
-    slips: &[Slip],
-    tables: &mut Tables,
-) -> Result<Layout, Fault>
-    requires wide { 1 < place.width }
-    requires left { a < place.row }
-    requires right { b < place.row }
-    requires ample { Holds place tables.old }
-    ensures value { Made place (by2 place.width (value_in place.width slips.now (held tables.old)) a b (equated op)) (held tables.old) result (held tables.new) }
-    ensures lent { Kept tables.old tables.new }
+pub fn equate_row(frame: &mut Frame, op: Equality, a: u16, b: u16) -> Result<Layout, Fault>
+    requires wide { 1 < frame.old.place.width }
+    requires left { a < frame.old.place.row }
+    requires right { b < frame.old.place.row }
+    ensures made { Makes frame.old (by2 frame.old.place.width (values frame.old) a b (equated op)) result frame.new }
+    ensures stays { Stays frame.old frame.new }
 {
-    let x = place.operand(slips, a)?;
-    let y = place.operand(slips, b)?;
+    let place = frame.place;
+    let x = frame.operand(a)?;
+    let y = frame.operand(b)?;
     let form = guard_equate(place, x, y)?;
-    let same = are_equal(place, a, b, x, y, tables);
+    let same = are_equal(frame, a, b, x, y);
+    let tables = &mut frame.tables;
     write_truth(tables.booleans, says(op, same), place.start_of(place.row));
     Ok(form)
 }

@@ -5,14 +5,15 @@ ghost use Rattle.meaning.specs.States.{value_in};
 ghost use Rattle.meaning.specs.Values.{within};
 ghost use Rattle.meaning.specs.Works.{Made};
 ghost use Rattle.selections.specs.Choices.{pick_guard, pick_layout};
-ghost use Rattle.tables.specs.Lent.{held, Holds, Kept, Reach};
+ghost use Rattle.tables.specs.Frames.{values, Fills, Lasts, Makes, Stays};
+ghost use Rattle.tables.specs.Lent.{held, Kept, Reach};
 
 use expressions::answers::answer;
 use expressions::lists::{is_orderly, list_at};
 use fault::Fault;
 use meaning::{Layout, Place, Slip};
 use picks::Index;
-use tables::Tables;
+use tables::{Frame, Tables};
 use types::{Kind, Shape};
 
 /// The layout of what a list of indices picks: an index that is a scalar picks a scalar.
@@ -46,26 +47,20 @@ fn guard_pick(place: Place, x: Layout, y: Layout, list: Index) -> Result<Layout,
 }
 
 /// The elements of a vector that an index names, or each of several.
-pub fn pick_row(
-    place: Place,
-    a: u16,
-    b: u16,
-    slips: &[Slip],
-    tables: &mut Tables,
-) -> Result<Layout, Fault>
-    requires wide { 1 < place.width }
-    requires left { a < place.row }
-    requires right { b < place.row }
-    requires ample { Holds place tables.old }
-    ensures value { Made place (by2 place.width (value_in place.width slips.now (held tables.old)) a b pick_plan) (held tables.old) result (held tables.new) }
-    ensures lent { Kept tables.old tables.new }
+pub fn pick_row(frame: &mut Frame, a: u16, b: u16) -> Result<Layout, Fault>
+    requires wide { 1 < frame.old.place.width }
+    requires left { a < frame.old.place.row }
+    requires right { b < frame.old.place.row }
+    ensures made { Makes frame.old (by2 frame.old.place.width (values frame.old) a b pick_plan) result frame.new }
+    ensures stays { Stays frame.old frame.new }
 {
-    let x = place.operand(slips, a)?;
-    let y = place.operand(slips, b)?;
-    let list = list_at(place, b, y, tables);
+    let place = frame.place;
+    let x = frame.operand(a)?;
+    let y = frame.operand(b)?;
+    let list = list_at(frame, b, y);
     let form = guard_pick(place, x, y, list)?;
     let from = place.start_of(a);
     let to = place.start_of(place.row);
-    let picked = tables.pick(x.kind, from, x.s, list, to);
+    let picked = frame.tables.pick(x.kind, from, x.s, list, to);
     answer(place, form, picked)
 }

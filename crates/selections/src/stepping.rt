@@ -7,7 +7,8 @@ ghost use Rattle.meaning.specs.States.{value_in};
 ghost use Rattle.meaning.specs.Values.{vector_of, within};
 ghost use Rattle.meaning.specs.Works.{Made};
 ghost use Rattle.selections.specs.Strides.{strides, step_guard, stepped_in};
-ghost use Rattle.tables.specs.Lent.{held, Holds, Kept, Reach};
+ghost use Rattle.tables.specs.Frames.{values, Fills, Lasts, Makes, Stays};
+ghost use Rattle.tables.specs.Lent.{held, Kept, Reach};
 
 use element::steps::step_count;
 use expressions::lists::{is_orderly, list_at};
@@ -16,7 +17,7 @@ use meaning::{Layout, Place, Slip};
 use picks::Index;
 use picks::indices::span;
 use picks::intervals::step_interval;
-use tables::Tables;
+use tables::{Frame, Tables};
 use types::{Kind, Shape};
 
 /// The step that the cell `at` holds, and 0 for a negative one.
@@ -88,26 +89,20 @@ fn write_steps(kind: Kind, list: Index, step: usize, to: usize, tables: &mut Tab
 }
 
 /// The first element of a vector or an interval, and every so many after it, as a vector.
-pub fn step_row(
-    place: Place,
-    a: u16,
-    b: u16,
-    slips: &[Slip],
-    tables: &mut Tables,
-) -> Result<Layout, Fault>
-    requires wide { 1 < place.width }
-    requires left { a < place.row }
-    requires right { b < place.row }
-    requires ample { Holds place tables.old }
-    ensures value { Made place (by2 place.width (value_in place.width slips.now (held tables.old)) a b stepped_by) (held tables.old) result (held tables.new) }
-    ensures lent { Kept tables.old tables.new }
+pub fn step_row(frame: &mut Frame, a: u16, b: u16) -> Result<Layout, Fault>
+    requires wide { 1 < frame.old.place.width }
+    requires left { a < frame.old.place.row }
+    requires right { b < frame.old.place.row }
+    ensures made { Makes frame.old (by2 frame.old.place.width (values frame.old) a b stepped_by) result frame.new }
+    ensures stays { Stays frame.old frame.new }
 {
-    let x = place.operand(slips, a)?;
-    let y = place.operand(slips, b)?;
-    let list = list_at(place, a, x, tables);
-    let step = step_at(tables, place.start_of(b));
+    let place = frame.place;
+    let x = frame.operand(a)?;
+    let y = frame.operand(b)?;
+    let list = list_at(frame, a, x);
+    let step = step_at(&frame.tables, place.start_of(b));
     let form = guard_step(place, x, y, list, step)?;
     let to = place.start_of(place.row);
-    write_steps(x.kind, list, step, to, tables);
+    write_steps(x.kind, list, step, to, &mut frame.tables);
     Ok(form)
 }

@@ -1,30 +1,25 @@
 //! Rows that go one way or another by a condition.
 ghost use Rattle.std.specs.Prelude.{◌*◌, ◌<◌, ◌≤◌, length};
 ghost use Rattle.statements.specs.Frames.{InTables, branching};
-ghost use Rattle.tables.specs.Lent.{held};
+ghost use Rattle.tables.specs.Frames.{values, Fills, Lasts, Makes, Stays};
+ghost use Rattle.tables.specs.Lent.{held, Kept, Reach};
 
 use fault::{Cause, Fault};
 use meaning::{After, Place, Slip};
-use tables::Tables;
+use tables::{Frame, Tables};
 use types::Kind;
 
 /// An if or a test: on at the next row where the value of row a is true, and at the row after the target where it is false.
-pub fn branch(
-    place: Place,
-    a: u16,
-    target: u16,
-    slips: &[Slip],
-    tables: &Tables,
-) -> Result<After, Fault>
-    requires before { a < place.row }
-    requires ample { place.row * place.width ≤ length tables.now.booleans.now }
-    ensures { InTables (branching place a target) slips.now (held tables.now) result slips.now (held tables.now) }
+pub fn branch(frame: &Frame, a: u16, target: u16) -> Result<After, Fault>
+    requires before { a < frame.now.place.row }
+    ensures { InTables (branching frame.now.place a target) frame.now.slips.now (held frame.now.tables) result frame.now.slips.now (held frame.now.tables) }
 {
-    let x = place.operand(slips, a)?;
+    let place = frame.place;
+    let x = frame.operand(a)?;
     if !x.typing().is_alone(Kind::Boolean) {
         return Err(place.fault(Cause::NoRule, 0));
     }
-    let holds = tables.booleans[place.start_of(a)];
+    let holds = frame.tables.booleans[place.start_of(a)];
     if holds {
         Ok(After::Row(place.row as usize + 1))
     } else {

@@ -2,7 +2,8 @@
 ghost use Rattle.std.specs.Prelude.{◌<◌, length};
 ghost use Rattle.statements.specs.Frames.{InTables, resuming, reopening, turning};
 ghost use Rattle.statements.specs.Ready.{TurnDomain, DomainBefore, Ready};
-ghost use Rattle.tables.specs.Lent.{held, Holds, Kept, Reach};
+ghost use Rattle.tables.specs.Frames.{values, Fills, Lasts, Makes, Stays};
+ghost use Rattle.tables.specs.Lent.{held, Kept, Reach};
 
 use crate::conditions::branch;
 use crate::each::{advance, resume_each};
@@ -10,26 +11,20 @@ use checker::Line;
 use fault::Fault;
 use instruction::{Control, Instruction};
 use meaning::{After, Place, Slip};
-use tables::Tables;
+use tables::{Frame, Tables};
 
 /// Back to row i, where a control row stands: a loop begins anew, an each takes its next element, and an if is left.
-fn resume(
-    place: Place,
-    i: u16,
-    control: Control,
-    slips: &mut [Slip],
-    tables: &mut Tables,
-) -> Result<After, Fault>
-    requires earlier { i < place.row }
+fn resume(frame: &mut Frame, i: u16, control: Control) -> Result<After, Fault>
+    requires earlier { i < frame.old.place.row }
     requires domain { TurnDomain i control }
-    requires slip { place.row < length slips.old }
-    requires ample { Holds place tables.old }
-    ensures value { InTables (resuming place i control) slips.old (held tables.old) result slips.new (held tables.new) }
-    ensures lent { Kept tables.old tables.new }
+    requires slip { frame.old.place.row < length frame.old.slips.now }
+    ensures value { InTables (resuming frame.old.place i control) frame.old.slips.now (held frame.old.tables) result frame.new.slips.now (held frame.new.tables) }
+    ensures lasts { Lasts frame.old frame.new }
 {
+    let place = frame.place;
     match control {
         Control::Loop(_) => Ok(After::Row(i as usize + 1)),
-        Control::Each(a, end) => resume_each(place, i, a, end, slips, tables),
+        Control::Each(a, end) => resume_each(frame, i, a, end),
         Control::If(_, _)
         | Control::Else(_)
         | Control::Test(_)
@@ -40,22 +35,16 @@ fn resume(
 }
 
 /// An end or a continue goes back to row i, which opened its block.
-fn reopen(
-    place: Place,
-    i: u16,
-    instruction: Instruction,
-    slips: &mut [Slip],
-    tables: &mut Tables,
-) -> Result<After, Fault>
-    requires earlier { i < place.row }
+fn reopen(frame: &mut Frame, i: u16, instruction: Instruction) -> Result<After, Fault>
+    requires earlier { i < frame.old.place.row }
     requires domain { DomainBefore i instruction }
-    requires slip { place.row < length slips.old }
-    requires ample { Holds place tables.old }
-    ensures value { InTables (reopening place i instruction) slips.old (held tables.old) result slips.new (held tables.new) }
-    ensures lent { Kept tables.old tables.new }
+    requires slip { frame.old.place.row < length frame.old.slips.now }
+    ensures value { InTables (reopening frame.old.place i instruction) frame.old.slips.now (held frame.old.tables) result frame.new.slips.now (held frame.new.tables) }
+    ensures lasts { Lasts frame.old frame.new }
 {
+    let place = frame.place;
     match instruction {
-        Instruction::Control(control) => resume(place, i, control, slips, tables),
+        Instruction::Control(control) => resume(frame, i, control),
         Instruction::Expression(_) | Instruction::Change(_) => Ok(After::Row(
             place.row as usize + 1,
         )),
@@ -64,27 +53,25 @@ fn reopen(
 
 /// A control row. A jump goes on at the row after its target, which check has found.
 pub fn control_row(
-    place: Place,
+    frame: &mut Frame,
     lines: &[Line],
     control: Control,
     target: u16,
-    slips: &mut [Slip],
-    tables: &mut Tables,
 ) -> Result<After, Fault>
-    requires ready { Ready lines.now place.row target control }
-    requires slip { place.row < length slips.old }
-    requires ample { Holds place tables.old }
-    ensures value { InTables (turning place lines.now target control) slips.old (held tables.old) result slips.new (held tables.new) }
-    ensures lent { Kept tables.old tables.new }
+    requires ready { Ready lines.now frame.old.place.row target control }
+    requires slip { frame.old.place.row < length frame.old.slips.now }
+    ensures value { InTables (turning frame.old.place lines.now target control) frame.old.slips.now (held frame.old.tables) result frame.new.slips.now (held frame.new.tables) }
+    ensures lasts { Lasts frame.old frame.new }
 {
+    let place = frame.place;
     match control {
-        Control::If(a, _) | Control::Test(a) => branch(place, a, target, slips, tables),
+        Control::If(a, _) | Control::Test(a) => branch(frame, a, target),
         Control::Else(_) | Control::Break => Ok(After::Row(target as usize + 1)),
         Control::Loop(_) => Ok(After::Row(place.row as usize + 1)),
-        Control::Each(a, end) => advance(place, place.row, a, end, 0, slips, tables),
+        Control::Each(a, end) => advance(frame, place.row, a, end, 0),
         Control::Continue | Control::End(_) => {
             let opener = lines[target as usize];
-            reopen(place, target, opener.instruction, slips, tables)
+            reopen(frame, target, opener.instruction)
         }
     }
 }

@@ -2,14 +2,15 @@
 ghost use Rattle.std.specs.Prelude.{◌≡◌, ◌+◌, ◌<◌, ◌≤◌, length};
 ghost use Rattle.statements.specs.Domains.{ranged, ElementBelow, with_element};
 ghost use Rattle.statements.specs.Frames.{InTables, advancing, repeating};
-ghost use Rattle.tables.specs.Lent.{held, Holds, Kept, Reach};
+ghost use Rattle.tables.specs.Frames.{values, Fills, Lasts, Makes, Stays};
+ghost use Rattle.tables.specs.Lent.{held, Kept, Reach};
 
 use expressions::lists::{is_orderly, list_at};
 use fault::{Cause, Fault};
 use meaning::{After, Layout, Place, Slip};
 use picks::Index;
 use picks::indices::nth_between;
-use tables::Tables;
+use tables::{Frame, Tables};
 use types::{Kind, Shape};
 
 /// Whether an each can range over a value of this layout.
@@ -34,63 +35,48 @@ fn put_element(kind: Kind, list: Index, n: usize, to: usize, tables: &mut Tables
 
 /// The each row i takes element n of its domain, the value of row a, and its block begins; past the last element
 /// the row holds nothing, and the sheet goes on behind the block, which ends at row `end`.
-pub fn advance(
-    place: Place,
-    i: u16,
-    a: u16,
-    end: u16,
-    n: usize,
-    slips: &mut [Slip],
-    tables: &mut Tables,
-) -> Result<After, Fault>
+pub fn advance(frame: &mut Frame, i: u16, a: u16, end: u16, n: usize) -> Result<After, Fault>
     requires domain { a < i }
-    requires upto { i ≤ place.row }
-    requires slip { i < length slips.old }
-    requires ample { Holds place tables.old }
-    ensures value { InTables (advancing place i a end n) slips.old (held tables.old) result slips.new (held tables.new) }
-    ensures lent { Kept tables.old tables.new }
+    requires upto { i ≤ frame.old.place.row }
+    requires slip { i < length frame.old.slips.now }
+    ensures value { InTables (advancing frame.old.place i a end n) frame.old.slips.now (held frame.old.tables) result frame.new.slips.now (held frame.new.tables) }
+    ensures lasts { Lasts frame.old frame.new }
 {
-    let x = place.operand(slips, a)?;
+    let place = frame.place;
+    let x = frame.operand(a)?;
     if !is_ranged(x) {
         return Err(place.fault(Cause::NoRule, 0));
     }
-    let list = list_at(place, a, x, tables);
+    let list = list_at(frame, a, x);
     if !is_orderly(list) {
         return Err(place.fault(Cause::Disordered, 0));
     }
     if n >= list.count() {
-        slips[i as usize] = Slip::blank();
+        frame.slips[i as usize] = Slip::blank();
         return Ok(After::Row(end as usize + 1));
     }
     let to = place.start_of(i);
-    put_element(x.kind, list, n, to, tables);
-    slips[i as usize] = Slip::new(Layout::scalar(x.kind), n as u32);
+    put_element(x.kind, list, n, to, frame.tables);
+    frame.slips[i as usize] = Slip::new(Layout::scalar(x.kind), n as u32);
     Ok(After::Row(i as usize + 1))
 }
 
 /// The each row i takes the element after the one that it has; a row that has none has no next one.
-pub fn resume_each(
-    place: Place,
-    i: u16,
-    a: u16,
-    end: u16,
-    slips: &mut [Slip],
-    tables: &mut Tables,
-) -> Result<After, Fault>
+pub fn resume_each(frame: &mut Frame, i: u16, a: u16, end: u16) -> Result<After, Fault>
     requires domain { a < i }
-    requires upto { i ≤ place.row }
-    requires slip { i < length slips.old }
-    requires ample { Holds place tables.old }
-    ensures value { InTables (repeating place i a end) slips.old (held tables.old) result slips.new (held tables.new) }
-    ensures lent { Kept tables.old tables.new }
+    requires upto { i ≤ frame.old.place.row }
+    requires slip { i < length frame.old.slips.now }
+    ensures value { InTables (repeating frame.old.place i a end) frame.old.slips.now (held frame.old.tables) result frame.new.slips.now (held frame.new.tables) }
+    ensures lasts { Lasts frame.old frame.new }
 {
-    let slip = slips[i as usize];
+    let place = frame.place;
+    let slip = frame.slips[i as usize];
     match slip.kind {
         None => Err(place.fault(Cause::NoRule, 0)),
         Some(_) => {
             // Wider than a position, so that the one after the greatest does not wrap: no domain has that element.
             let n = slip.position as usize + 1;
-            advance(place, i, a, end, n, slips, tables)
+            advance(frame, i, a, end, n)
         }
     }
 }

@@ -9,8 +9,8 @@ use crate::lent::Tables;
 use fault::Fault;
 use meaning::{Layout, Place, Slip};
 
-/// A row at work: where it stands, what the rows hold, and the lent tables, which have its cells. The second ghost field
-/// carries the range of the width to a reader of a frame.
+/// A row at work: where it stands, what the rows hold, and the lent tables, which have its cells. The other ghost
+/// fields carry the ranges of its numbers to a reader of a frame.
 #[derive(Drop)]
 pub struct Frame<'a> {
     pub place: Place,
@@ -18,6 +18,7 @@ pub struct Frame<'a> {
     pub tables: Tables<'a>,
     ghost ample: { Holds place tables },
     ghost width_fits: { place.width < 65536 },
+    ghost row_fits: { place.row < 65536 },
 }
 
 impl Frame<'_> {

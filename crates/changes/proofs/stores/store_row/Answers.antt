@@ -11,14 +11,14 @@ use Rattle.changes.proofs.stores.store_row.Goals as goal
 pub returns-in_err-form : goal.returns-in_err-form
 returns-in_err-form c =
     let a = c.args in
-    let p = a.place in
-    let t = held a.tables.now in
+    let p = a.frame.now.place in
+    let t = held a.frame.now.tables in
     let x = c.in_ok-x.x in
     let y = c.in_ok-y.y in
     let z = c.in_ok-z.z in
     let r = c.from_residual-in_err-form.result in
     record {
-      filled = filled_3 p a.v a.slips.now t t r a.v a.b a.c stored_at x y z c.in_ok-x.ensures.is c.in_ok-y.ensures.is c.in_ok-z.ensures.is
+      filled = filled_3 p a.v a.frame.now.slips.now t t r a.v a.b a.c stored_at x y z c.in_ok-x.ensures.is c.in_ok-y.ensures.is c.in_ok-z.ensures.is
           (store_refused p t a.v a.b a.c x y z c.in_ok-y.ensures.lawful r c.in_err-form.field-0.0 c.from_residual-in_err-form.ensures.1 c.in_err-form.ensures.is);
       within = IfOk-from_err r _ c.from_residual-in_err-form.ensures.0;
       lent = search rules;
@@ -27,20 +27,20 @@ returns-in_err-form c =
 pub list_at-index-requires : goal.list_at-index-requires
 list_at-index-requires c =
     let a = c.args in
-    let p = a.place in
-    let t = held a.tables.now in
+    let p = a.frame.now.place in
+    let t = held a.frame.now.tables in
     let x = c.in_ok-x.x in
     let y = c.in_ok-y.y in
     let z = c.in_ok-z.z in
     let ly = c.in_ok-y.ensures.lawful in
-    next_cell p.width a.b p.row (length a.tables.now.integers.now) y c.requires.index ly
-    (by_list x y z (ruled p t a.v a.b a.c x y z ly c.in_ok-form.form c.in_ok-form.ensures.is c.in_ok-x.ensures.lawful c.in_ok-z.ensures.lawful)) c.requires.ample.integers
+    next_cell p.width a.b p.row (length a.frame.now.tables.integers.now) y c.requires.index ly
+    (by_list x y z (ruled p t a.v a.b a.c x y z ly c.in_ok-form.form c.in_ok-form.ensures.is c.in_ok-x.ensures.lawful c.in_ok-z.ensures.lawful)) c.args.frame.now.ample.integers
 
 pub store-stored-requires : goal.store-stored-requires
 store-stored-requires c =
     let a = c.args in
-    let p = a.place in
-    let t = held a.tables.now in
+    let p = a.frame.now.place in
+    let t = held a.frame.now.tables in
     let x = c.in_ok-x.x in
     let y = c.in_ok-y.y in
     let z = c.in_ok-z.z in
@@ -55,15 +55,15 @@ store-stored-requires c =
     record {
       above = store_above p t a.v a.b a.c x y z ly form g lx lz to.result to.ensures ix.result ix.ensures vs.result vs.ensures c.requires.index c.requires.value c.requires.under_index c.requires.under_value;
       indices = store_under p t a.v a.b a.c x y z ly form g lx lz to.result to.ensures ix.result ix.ensures vs.result vs.ensures c.requires.index c.requires.value c.requires.under_index c.requires.under_value;
-      seen = store_seen p t a.v a.b a.c x y z ly form g lx lz to.result to.ensures ix.result ix.ensures vs.result vs.ensures c.requires.index c.requires.value c.requires.under_index c.requires.under_value (length a.tables.now.integers.now) c.requires.ample.integers;
-      within = reach a.tables.now c.requires.ample (store_fits p t a.v a.b a.c x y z ly form g lx lz to.result to.ensures ix.result ix.ensures vs.result vs.ensures c.requires.index c.requires.value c.requires.under_index c.requires.under_value (p.row * p.width + p.width) (omega arith));
+      seen = store_seen p t a.v a.b a.c x y z ly form g lx lz to.result to.ensures ix.result ix.ensures vs.result vs.ensures c.requires.index c.requires.value c.requires.under_index c.requires.under_value (length a.frame.now.tables.integers.now) c.args.frame.now.ample.integers;
+      within = reach a.frame.now.tables c.args.frame.now.ample (store_fits p t a.v a.b a.c x y z ly form g lx lz to.result to.ensures ix.result ix.ensures vs.result vs.ensures c.requires.index c.requires.value c.requires.under_index c.requires.under_value (p.row * p.width + p.width) (omega arith));
     }
 
 pub returns : goal.returns
 returns c =
     let a = c.args in
-    let p = a.place in
-    let t = held a.tables.now in
+    let p = a.frame.now.place in
+    let t = held a.frame.now.tables in
     let u = held c.store-stored.new.self in
     let x = c.in_ok-x.x in
     let y = c.in_ok-y.y in
@@ -78,7 +78,7 @@ returns c =
     let vs = c.values_at-values in
     let s = c.store-stored.result in
     record {
-      filled = filled_3 p a.v a.slips.now t u c.answer.result a.v a.b a.c stored_at x y z c.in_ok-x.ensures.is c.in_ok-y.ensures.is c.in_ok-z.ensures.is
+      filled = filled_3 p a.v a.frame.now.slips.now t u c.answer.result a.v a.b a.c stored_at x y z c.in_ok-x.ensures.is c.in_ok-y.ensures.is c.in_ok-z.ensures.is
           (store_filled p t a.v a.b a.c x y z ly form g lx lz to.result to.ensures ix.result ix.ensures vs.result vs.ensures u s c.answer.result c.store-stored.ensures.value c.answer.ensures);
       within = answered_within p form s c.answer.result c.answer.ensures c.in_ok-form.ensures.within;
       lent = search rules;

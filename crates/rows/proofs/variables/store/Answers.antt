@@ -8,5 +8,5 @@ use Rattle.rows.proofs.variables.store.Goals as goal
 pub returns-clause-value : goal.returns-clause-value
 returns-clause-value c head s =
     let g = c.args in
-    let t = held g.tables.now in
-    refilled g.place g.v (holding s g.slips.now t) (by3 g.place.width (value_in g.place.width g.slips.now t) g.v g.b g.c stored_at) c.store_row-stored.result _ c.proceed.result c.store_row-stored.ensures.filled c.proceed.ensures
+    let t = held g.frame.now.tables in
+    refilled g.frame.now.place g.v (holding s g.frame.now.slips.now t) (by3 g.frame.now.place.width (value_in g.frame.now.place.width g.frame.now.slips.now t) g.v g.b g.c stored_at) c.store_row-stored.result _ c.proceed.result c.store_row-stored.ensures.filled c.proceed.ensures

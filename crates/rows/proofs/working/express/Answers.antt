@@ -9,15 +9,15 @@ use Rattle.rows.proofs.working.express.Goals as goal
 pub settle-requires : goal.settle-requires
 settle-requires c =
     let g = c.args in
-    let t = held g.tables.now in
-    let at = value_in g.place.width g.slips.now t in
+    let t = held g.frame.now.tables in
+    let at = value_in g.frame.now.place.width g.frame.now.slips.now t in
     record {
       row = c.requires.row;
-      within = told_within g.place (evaluated g.place.width at g.stream g.expression) t _ c.evaluate-made.result (evaluated_within g.place.width at g.stream g.expression) c.evaluate-made.ensures.value;
+      within = told_within g.frame.now.place (evaluated g.frame.now.place.width at g.stream g.expression) t _ c.evaluate-made.result (evaluated_within g.frame.now.place.width at g.stream g.expression) c.evaluate-made.ensures.value;
     }
 
 pub returns-clause-value : goal.returns-clause-value
 returns-clause-value c s =
     let g = c.args in
-    let t = held g.tables.now in
-    settles g.place (holding s g.slips.now t) (evaluated g.place.width (value_in g.place.width g.slips.now t) g.stream g.expression) c.evaluate-made.result _ c.settle.result c.settle.new.slips c.evaluate-made.ensures.value c.settle.ensures.answer c.settle.ensures.slips
+    let t = held g.frame.now.tables in
+    settles g.frame.now.place (holding s g.frame.now.slips.now t) (evaluated g.frame.now.place.width (value_in g.frame.now.place.width g.frame.now.slips.now t) g.stream g.expression) c.evaluate-made.result _ c.settle.result c.settle.new.slips c.evaluate-made.ensures.value c.settle.ensures.answer c.settle.ensures.slips

@@ -10,28 +10,28 @@ use Rattle.selections.proofs.crossing.pick_two_row.Goals as goal
 
 pub list_at-rows-requires : goal.list_at-rows-requires
 list_at-rows-requires c =
-    let p = c.args.place in
+    let p = c.args.frame.now.place in
     let u = under_all p.width c.args.b p.row c.requires.row in
-    omega (arith, u, c.requires.ample.integers, c.requires.wide)
+    omega (arith, u, c.args.frame.now.ample.integers, c.requires.wide)
 
 pub list_at-columns-requires : goal.list_at-columns-requires
 list_at-columns-requires c =
-    let p = c.args.place in
+    let p = c.args.frame.now.place in
     let u = under_all p.width c.args.c p.row c.requires.column in
-    omega (arith, u, c.requires.ample.integers, c.requires.wide)
+    omega (arith, u, c.args.frame.now.ample.integers, c.requires.wide)
 
-pub returns-in_err-form-clause-value : goal.returns-in_err-form-clause-value
-returns-in_err-form-clause-value c =
-    let p = c.args.place in
-    let t = held c.args.tables.now in
-    refused_3 p c.args.slips.now t c.from_residual-in_err-form.result c.in_err-form.field-0.0 c.from_residual-in_err-form.ensures.1
+pub returns-in_err-form-clause-made : goal.returns-in_err-form-clause-made
+returns-in_err-form-clause-made c =
+    let p = c.args.frame.now.place in
+    let t = held c.args.frame.now.tables in
+    refused_3 p c.args.frame.now.slips.now t c.from_residual-in_err-form.result c.in_err-form.field-0.0 c.from_residual-in_err-form.ensures.1
     c.args.a c.args.b c.args.c pick_two c.in_ok-x.x c.in_ok-y.y c.in_ok-z.z c.in_ok-x.ensures.is c.in_ok-y.ensures.is c.in_ok-z.ensures.is
     (c.in_err-form.ensures.is ∙ cross_guarded p t c.args.a c.args.b c.args.c c.in_ok-x.x c.in_ok-y.y c.in_ok-z.z c.in_ok-y.ensures.lawful c.in_ok-z.ensures.lawful c.list_at-rows.result c.list_at-columns.result c.list_at-rows.ensures c.list_at-columns.ensures)
 
 pub pick_matrix-picked-requires : goal.pick_matrix-picked-requires
 pick_matrix-picked-requires c =
-    let p = c.args.place in
-    let t = held c.args.tables.now in
+    let p = c.args.frame.now.place in
+    let t = held c.args.frame.now.tables in
     let x = c.in_ok-x.x in
     let y = c.in_ok-y.y in
     let z = c.in_ok-z.z in
@@ -50,16 +50,16 @@ pick_matrix-picked-requires c =
       below = omega (arith, w, f.elements, c.start_of-from.ensures, c.start_of-to.ensures);
       rows_below = read_below p.width t c.args.b y ly rows er _ (omega (arith, u, c.start_of-to.ensures));
       columns_below = read_below p.width t c.args.c z lz columns ec _ (omega (arith, v, c.start_of-to.ensures));
-      rows_seen = read_below p.width t c.args.b y ly rows er _ (omega (arith, u, c.requires.ample.integers));
-      columns_seen = read_below p.width t c.args.c z lz columns ec _ (omega (arith, v, c.requires.ample.integers));
+      rows_seen = read_below p.width t c.args.b y ly rows er _ (omega (arith, u, c.args.frame.now.ample.integers));
+      columns_seen = read_below p.width t c.args.c z lz columns ec _ (omega (arith, v, c.args.frame.now.ample.integers));
       few = (let r = n.rows in let s = n.columns in search rules);
-      within = reach c.args.tables.now c.requires.ample (omega (arith, n.crossings, c.start_of-to.ensures));
+      within = reach c.args.frame.now.tables c.args.frame.now.ample (omega (arith, n.crossings, c.start_of-to.ensures));
     }
 
-pub returns-clause-value : goal.returns-clause-value
-returns-clause-value c =
-    let p = c.args.place in
-    let t = held c.args.tables.now in
+pub returns-clause-made : goal.returns-clause-made
+returns-clause-made c =
+    let p = c.args.frame.now.place in
+    let t = held c.args.frame.now.tables in
     let x = c.in_ok-x.x in
     let y = c.in_ok-y.y in
     let z = c.in_ok-z.z in
@@ -71,6 +71,6 @@ returns-clause-value c =
     let ec = c.list_at-columns.ensures in
     let form = c.in_ok-form.form in
     let g = c.in_ok-form.ensures.is in
-    made_3 p c.args.slips.now t _ c.answer.result c.args.a c.args.b c.args.c pick_two x y z c.in_ok-x.ensures.is c.in_ok-y.ensures.is c.in_ok-z.ensures.is
+    made_3 p c.args.frame.now.slips.now t _ c.answer.result c.args.a c.args.b c.args.c pick_two x y z c.in_ok-x.ensures.is c.in_ok-y.ensures.is c.in_ok-z.ensures.is
     (chosen_made p t _ (cross_at p t c.args.a c.args.b c.args.c x y z ly lz rows columns er ec) form (g ∙ cross_guarded p t c.args.a c.args.b c.args.c x y z ly lz rows columns er ec) _ c.start_of-to.result _ c.pick_matrix-picked.result c.answer.result
     (cross_outside p t c.args.a c.args.b c.args.c x y z ly lz rows columns er ec form g) (cross_elements p t c.args.a c.args.b c.args.c x y z ly lz rows columns er ec form g c.start_of-from.result c.start_of-from.ensures) c.start_of-to.ensures c.answer.ensures c.pick_matrix-picked.ensures.value)

@@ -8,19 +8,19 @@ use Rattle.selections.proofs.Equating.{equate_at, equal_cells}
 use Rattle.tables.specs.Lent.{held}
 use Rattle.selections.proofs.equalities.equate_row.Goals as goal
 
-pub returns-in_err-form-clause-value : goal.returns-in_err-form-clause-value
-returns-in_err-form-clause-value c =
-    let p = c.args.place in
-    let t = held c.args.tables.now in
-    refused_2 p c.args.slips.now t c.from_residual-in_err-form.result c.in_err-form.field-0.0 c.from_residual-in_err-form.ensures.1
+pub returns-in_err-form-clause-made : goal.returns-in_err-form-clause-made
+returns-in_err-form-clause-made c =
+    let p = c.args.frame.now.place in
+    let t = held c.args.frame.now.tables in
+    refused_2 p c.args.frame.now.slips.now t c.from_residual-in_err-form.result c.in_err-form.field-0.0 c.from_residual-in_err-form.ensures.1
     c.args.a c.args.b (equated c.args.op) c.in_ok-x.x c.in_ok-y.y c.in_ok-x.ensures.is c.in_ok-y.ensures.is c.in_err-form.ensures
 
-pub returns-clause-value : goal.returns-clause-value
-returns-clause-value c =
-    let p = c.args.place in
-    let bs = c.args.tables.now.booleans.now in
-    let cs = c.args.tables.now.characters.now in
-    let is = c.args.tables.now.integers.now in
+pub returns-clause-made : goal.returns-clause-made
+returns-clause-made c =
+    let p = c.args.frame.now.place in
+    let bs = c.args.frame.now.tables.booleans.now in
+    let cs = c.args.frame.now.tables.characters.now in
+    let is = c.args.frame.now.tables.integers.now in
     let t = tables bs cs is in
     let x = c.in_ok-x.x in
     let y = c.in_ok-y.y in
@@ -29,8 +29,8 @@ returns-clause-value c =
     let form = c.in_ok-form.form in
     let g = c.in_ok-form.ensures in
     let ok : Bool → Result (List Bool) ElementFault = λ b. Ok (b ∷ []) in
-    let e = equal_cells p c.args.op t c.args.a c.args.b x y form g lx ly c.requires.wide c.requires.left c.requires.ample in
-    made_2 p c.args.slips.now t _ _ c.args.a c.args.b (equated c.args.op) x y c.in_ok-x.ensures.is c.in_ok-y.ensures.is
+    let e = equal_cells p c.args.op t c.args.a c.args.b x y form g lx ly c.requires.wide c.requires.left c.args.frame.now.ample in
+    made_2 p c.args.frame.now.slips.now t _ _ c.args.a c.args.b (equated c.args.op) x y c.in_ok-x.ensures.is c.in_ok-y.ensures.is
     (left_value p p.row (FreeAt p.width p.row) t _ (equate_at p c.args.op t c.args.a c.args.b x y form g lx ly) form (sym g) (c.says.result ∷ []) refl
     (ap ok (ap (says c.args.op) (e ∙ sym c.are_equal-same.ensures) ∙ sym c.says.ensures))
     (ap (λ (ds : List Bool). tables ds cs is) (c.write_truth.ensures ∙ ap (λ (n : ℕ). put bs n (c.says.result ∷ [])) c.start_of.ensures)))

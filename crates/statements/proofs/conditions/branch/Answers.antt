@@ -8,21 +8,21 @@ use Rattle.statements.proofs.conditions.branch.Goals as goal
 
 pub returns-then-not-is_alone : goal.returns-then-not-is_alone
 returns-then-not-is_alone c s =
-    branch_stuck c.args.place s c.args.slips.now (held c.args.tables.now) c.args.a c.in_ok-x.x c.in_ok-x.ensures.is c.args.target c.fault.result c.fault.ensures
+    branch_stuck c.args.frame.now.place s c.args.frame.now.slips.now (held c.args.frame.now.tables) c.args.a c.in_ok-x.x c.in_ok-x.ensures.is c.args.target c.fault.result c.fault.ensures
     (c.if-not-is_alone.ensures ∙ ap (alone Boolean) c.typing.ensures)
 
 pub bounds-tables-start_of : goal.bounds-tables-start_of
 bounds-tables-start_of c =
     let lone = c.if-not-is_alone.ensures ∙ ap (alone Boolean) c.typing.ensures in
-    let there = cell_there c.args.place.width c.in_ok-x.x c.in_ok-x.ensures.lawful (sym lone) c.args.a c.args.place.row (length c.args.tables.now.booleans.now) c.requires.before c.requires.ample in
+    let there = cell_there c.args.frame.now.place.width c.in_ok-x.x c.in_ok-x.ensures.lawful (sym lone) c.args.a c.args.frame.now.place.row (length c.args.frame.now.tables.booleans.now) c.requires.before c.args.frame.now.ample in
     omega (arith, there, c.start_of.ensures)
 
 pub returns-then-holds : goal.returns-then-holds
 returns-then-holds c s =
-    branch_by c.args.place s c.args.slips.now (held c.args.tables.now) c.args.a c.in_ok-x.x c.in_ok-x.ensures.is c.args.target c.in_ok-x.ensures.lawful
+    branch_by c.args.frame.now.place s c.args.frame.now.slips.now (held c.args.frame.now.tables) c.args.a c.in_ok-x.x c.in_ok-x.ensures.is c.args.target c.in_ok-x.ensures.lawful
     (c.if-not-is_alone.ensures ∙ ap (alone Boolean) c.typing.ensures) c.start_of.result c.start_of.ensures true c.if-holds.true
 
 pub returns-else-holds : goal.returns-else-holds
 returns-else-holds c s =
-    branch_by c.args.place s c.args.slips.now (held c.args.tables.now) c.args.a c.in_ok-x.x c.in_ok-x.ensures.is c.args.target c.in_ok-x.ensures.lawful
+    branch_by c.args.frame.now.place s c.args.frame.now.slips.now (held c.args.frame.now.tables) c.args.a c.in_ok-x.x c.in_ok-x.ensures.is c.args.target c.in_ok-x.ensures.lawful
     (c.if-not-is_alone.ensures ∙ ap (alone Boolean) c.typing.ensures) c.start_of.result c.start_of.ensures false c.if-holds.false

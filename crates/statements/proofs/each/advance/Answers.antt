@@ -23,49 +23,49 @@ long_enough p a t h u Integer = omega (arith, h.integers)
 pub returns-then-not-is_ranged-clause-value : goal.returns-then-not-is_ranged-clause-value
 returns-then-not-is_ranged-clause-value c s =
     let g = c.args in
-    each_stuck g.place s g.slips.now (held g.tables.now) g.i g.a g.end g.n c.in_ok-x.x c.in_ok-x.ensures.is c.fault.result c.fault.ensures c.if-not-is_ranged.ensures
+    each_stuck g.frame.now.place s g.frame.now.slips.now (held g.frame.now.tables) g.i g.a g.end g.n c.in_ok-x.x c.in_ok-x.ensures.is c.fault.result c.fault.ensures c.if-not-is_ranged.ensures
 
 pub list_at-list-requires : goal.list_at-list-requires
 list_at-list-requires c =
-    let W = c.args.place.width in
+    let W = c.args.frame.now.place.width in
     let wide = ranged_wide W c.in_ok-x.x c.in_ok-x.ensures.lawful (sym c.if-not-is_ranged.ensures) in
-    let u = under_all W c.args.a c.args.place.row (omega arith) in
-    omega (arith, wide, u, c.requires.ample.integers)
+    let u = under_all W c.args.a c.args.frame.now.place.row (omega arith) in
+    omega (arith, wide, u, c.args.frame.now.ample.integers)
 
 pub returns-then-not-is_orderly-clause-value : goal.returns-then-not-is_orderly-clause-value
 returns-then-not-is_orderly-clause-value c s =
     let g = c.args in
-    each_disordered g.place s g.slips.now (held g.tables.now) g.i g.a g.end g.n c.in_ok-x.x c.in_ok-x.ensures.is
+    each_disordered g.frame.now.place s g.frame.now.slips.now (held g.frame.now.tables) g.i g.a g.end g.n c.in_ok-x.x c.in_ok-x.ensures.is
     c.in_ok-x.ensures.lawful c.if-not-is_ranged.ensures c.list_at-list.result c.list_at-list.ensures c.fault-then-not-is_orderly.result c.fault-then-not-is_orderly.ensures c.if-not-is_orderly.ensures
 
 pub returns-then-n-count-clause-value : goal.returns-then-n-count-clause-value
 returns-then-n-count-clause-value c s =
     let g = c.args in
-    each_over g.place s g.slips.now (held g.tables.now) g.i g.a g.end g.n c.in_ok-x.x c.in_ok-x.ensures.is
+    each_over g.frame.now.place s g.frame.now.slips.now (held g.frame.now.tables) g.i g.a g.end g.n c.in_ok-x.x c.in_ok-x.ensures.is
     c.in_ok-x.ensures.lawful c.if-not-is_ranged.ensures c.list_at-list.result c.list_at-list.ensures c.if-not-is_orderly.ensures
-    (subst (λ (m : ℕ). m ≤ g.n) c.count.ensures c.if-n-count.true) _ (ap (set g.slips.now g.i) c.blank.ensures)
+    (subst (λ (m : ℕ). m ≤ g.n) c.count.ensures c.if-n-count.true) _ (ap (set g.frame.now.slips.now g.i) c.blank.ensures)
 
 pub put_element-requires : goal.put_element-requires
 put_element-requires c =
     let g = c.args in
-    let W = g.place.width in
+    let W = g.frame.now.place.width in
     let wide = ranged_wide W c.in_ok-x.x c.in_ok-x.ensures.lawful (sym c.if-not-is_ranged.ensures) in
     let lt = subst (λ (m : ℕ). g.n < m) c.count.ensures c.if-n-count.false in
     let start = c.start_of-to.ensures in
     let u = under_all W g.a g.i c.requires.domain in
-    let last = room_at W g.i g.place.row c.requires.upto in
+    let last = room_at W g.i g.frame.now.place.row c.requires.upto in
     record {
-      below = element_below W g.tables.now.integers.now g.a g.n c.in_ok-x.x c.in_ok-x.ensures.lawful c.list_at-list.result c.list_at-list.ensures c.start_of-to.result lt (omega (arith, u, start));
-      within = reach c.args.tables.now c.requires.ample (omega (arith, wide, last, start));
+      below = element_below W g.frame.now.tables.integers.now g.a g.n c.in_ok-x.x c.in_ok-x.ensures.lawful c.list_at-list.result c.list_at-list.ensures c.start_of-to.result lt (omega (arith, u, start));
+      within = reach c.args.frame.now.tables c.args.frame.now.ample (omega (arith, wide, last, start));
     }
 
 pub returns-clause-value : goal.returns-clause-value
 returns-clause-value c s =
     let g = c.args in
-    let W = g.place.width in
+    let W = g.frame.now.place.width in
     let lt = subst (λ (m : ℕ). g.n < m) c.count.ensures c.if-n-count.false in
-    let u = under_all W g.a g.place.row (omega arith) in
-    let t = held g.tables.now in
-    each_takes g.place s g.slips.now t g.i g.a g.end g.n c.in_ok-x.x c.in_ok-x.ensures.is
+    let u = under_all W g.a g.frame.now.place.row (omega arith) in
+    let t = held g.frame.now.tables in
+    each_takes g.frame.now.place s g.frame.now.slips.now t g.i g.a g.end g.n c.in_ok-x.x c.in_ok-x.ensures.is
     c.in_ok-x.ensures.lawful c.if-not-is_ranged.ensures c.list_at-list.result c.list_at-list.ensures c.if-not-is_orderly.ensures
-    lt (long_enough g.place g.a t c.requires.ample u) c.start_of-to.result c.start_of-to.ensures _ (ap (set g.slips.now g.i) (c.new.ensures ∙ ap (λ (f : Layout). slip_of f g.n) c.scalar.ensures)) _ c.put_element.ensures.value
+    lt (long_enough g.frame.now.place g.a t c.args.frame.now.ample u) c.start_of-to.result c.start_of-to.ensures _ (ap (set g.frame.now.slips.now g.i) (c.new.ensures ∙ ap (λ (f : Layout). slip_of f g.n) c.scalar.ensures)) _ c.put_element.ensures.value

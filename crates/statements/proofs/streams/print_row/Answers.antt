@@ -10,25 +10,25 @@ returns-then-same c =
     let g = c.args in
     record {
       row = λ s.
-          print_stuck g.place s g.slips.now (held g.tables.now) g.a c.in_ok-x.x c.in_ok-x.ensures.is g.output.now g.printed.now
+          print_stuck g.frame.now.place s g.frame.now.slips.now (held g.frame.now.tables) g.a c.in_ok-x.x c.in_ok-x.ensures.is g.output.now g.printed.now
           c.fault.result c.fault.ensures c.if-same.ensures;
       room = c.requires.room;
     }
 
 pub print-requires : goal.print-requires
 print-requires c =
-    let W = c.args.place.width in
+    let W = c.args.frame.now.place.width in
     let x = c.in_ok-x.x in
     let law = c.in_ok-x.ensures.lawful in
     let small = lawful_small W x law in
-    let u = under_all W c.args.a c.args.place.row c.requires.before in
+    let u = under_all W c.args.a c.args.frame.now.place.row c.requires.before in
     let start = c.start_of-at.ensures in
     record {
       fixed = lawful_fixed W x law;
       rows = omega (arith, small.rows, c.requires.width);
       columns = omega (arith, small.columns, c.requires.width);
       place = c.requires.room;
-      within = reach c.args.tables.now c.requires.ample (omega (arith, small.elements, u, start));
+      within = reach c.args.frame.now.tables c.args.frame.now.ample (omega (arith, small.elements, u, start));
     }
 
 pub returns-in-Some : goal.returns-in-Some
@@ -37,7 +37,7 @@ returns-in-Some c =
     let done = c.in-Some.ensures in
     record {
       row = λ s.
-          print_some g.place s g.slips.now (held g.tables.now) g.a c.in_ok-x.x c.in_ok-x.ensures.is g.output.now g.printed.now
+          print_some g.frame.now.place s g.frame.now.slips.now (held g.frame.now.tables) g.a c.in_ok-x.x c.in_ok-x.ensures.is g.output.now g.printed.now
           c.if-same.ensures c.start_of-at.result c.start_of-at.ensures c.print.new.output c.in-Some.end done;
       room = omega (arith, done.0, done.1, c.print.auto.output);
     }
@@ -47,7 +47,7 @@ returns-in-None c =
     let g = c.args in
     record {
       row = λ s.
-          print_none g.place s g.slips.now (held g.tables.now) g.a c.in_ok-x.x c.in_ok-x.ensures.is g.output.now g.printed.now
+          print_none g.frame.now.place s g.frame.now.slips.now (held g.frame.now.tables) g.a c.in_ok-x.x c.in_ok-x.ensures.is g.output.now g.printed.now
           c.if-same.ensures c.start_of-at.result c.start_of-at.ensures c.print.new.output c.in-None.ensures;
       room = omega (arith, c.requires.room, c.print.auto.output);
     }
