@@ -50,11 +50,12 @@ fn write_value(frame: &mut Frame, v: u16, a: u16, x: Layout, y: Layout)
     let to = place.start_of(v);
     let n = x.area(place.width);
     if x.shape.same(y.shape) {
-        copy_down(x.kind, from, n, to, frame.tables);
+        copy_down(x.kind, from, n, to, &mut frame.tables);
     } else if Shape::Scalar.same(y.shape) {
         frame.tables.spread(x.kind, from, to, n);
     } else {
-        unfold_interval(frame.tables.integers, from, to);
+        let tables = &mut frame.tables;
+        unfold_interval(tables.integers, from, to);
     }
 }
 

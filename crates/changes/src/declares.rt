@@ -46,7 +46,6 @@ fn guard_nulls(place: Place, w: Typing) -> Result<Layout, Fault>
 
 /// A variable of nulls.
 pub fn declare_nulls(frame: &mut Frame, w: Typing) -> Result<Layout, Fault>
-    requires { Holds frame.old.place frame.old.tables }
     ensures filled { Fills frame.old frame.old.place.row (outcome frame.old.place.width (nulls w)) result frame.new }
     ensures within { IfOk result (λ f. within frame.old.place.width f.r f.s ≡ true) }
     ensures stays { Stays frame.old frame.new }
@@ -142,7 +141,8 @@ fn write_beginning(frame: &mut Frame, w: Typing, a: u16, y: Layout, form: Layout
     } else if Shape::Scalar.same(y.shape) {
         frame.tables.spread(w.kind, from, to, form.r * form.s);
     } else {
-        unfold_padded(frame.tables.integers, from, to, form.r * form.s);
+        let tables = &mut frame.tables;
+        unfold_padded(tables.integers, from, to, form.r * form.s);
     }
 }
 

@@ -148,7 +148,7 @@ pub fn store_two_row(frame: &mut Frame, v: u16, b: u16, c: u16, d: u16) -> Resul
         row,
         column,
         from,
-        frame.tables,
+        &mut frame.tables,
     );
     answer(place, form, stored)
 }

@@ -18,7 +18,7 @@ returns-in_err-form c =
       filled = filled_2 p a.v a.frame.now.slips.now t t r a.v a.a assigned x y c.in_ok-x.ensures.is c.in_ok-y.ensures.is
           (assign_refused p t a.v a.a x y c.in_ok-y.ensures.lawful r c.in_err-form.field-0.0 c.from_residual-in_err-form.ensures.1 c.in_err-form.ensures.is);
       within = IfOk-from_err r _ c.from_residual-in_err-form.ensures.0;
-      lent = search rules;
+      stays = search rules;
     }
 
 pub write_value-requires : goal.write_value-requires
@@ -29,7 +29,6 @@ write_value-requires c =
       before = c.requires.before;
       under = c.requires.under;
       given = assign_given a.frame.now.place t a.v a.a c.in_ok-x.x c.in_ok-y.y c.in_ok-y.ensures.lawful c.in_ok-form.form c.in_ok-form.ensures.is c.in_ok-x.ensures.lawful;
-      ample = c.args.frame.now.ample;
     }
 
 pub returns : goal.returns
@@ -37,7 +36,7 @@ returns c =
     let a = c.args in
     let p = a.frame.now.place in
     let t = held a.frame.now.tables in
-    let u = held c.write_value.new.tables in
+    let u = held c.write_value.new.frame.tables in
     let x = c.in_ok-x.x in
     let y = c.in_ok-y.y in
     let form = c.in_ok-form.form in
@@ -45,5 +44,5 @@ returns c =
       filled = filled_2 p a.v a.frame.now.slips.now t u _ a.v a.a assigned x y c.in_ok-x.ensures.is c.in_ok-y.ensures.is
           (assign_filled p t a.v a.a x y c.in_ok-y.ensures.lawful form c.in_ok-form.ensures.is c.in_ok-x.ensures.lawful u c.write_value.ensures.value);
       within = c.in_ok-form.ensures.within;
-      lent = search rules;
+      stays = search rules;
     }

@@ -18,5 +18,5 @@ returns c =
     record {
       filled = written p p.row t u (nulls w) form c.in_ok-form.ensures.is c.start_of-to.result c.start_of-to.ensures (λ k T. replicate (form.r * form.s) (null_of k)) refl (ap ok e) c.fill_nulls.ensures.value;
       within = c.in_ok-form.ensures.within;
-      lent = search rules;
+      stays = search rules;
     }

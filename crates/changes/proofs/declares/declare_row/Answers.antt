@@ -17,7 +17,7 @@ returns-in_err-form c =
       filled = filled_1 p p.row a.frame.now.slips.now t t r a.a (declared a.w) y c.in_ok-y.ensures.is
           (declare_refused p t a.w a.a y c.in_ok-y.ensures.lawful r c.in_err-form.field-0.0 c.from_residual-in_err-form.ensures.1 c.in_err-form.ensures.is);
       within = IfOk-from_err r _ c.from_residual-in_err-form.ensures.0;
-      lent = search rules;
+      stays = search rules;
     }
 
 pub write_beginning-requires : goal.write_beginning-requires
@@ -27,7 +27,6 @@ write_beginning-requires c =
     record {
       before = c.requires.before;
       begun = declare_begun a.frame.now.place t a.w a.a c.in_ok-y.y c.in_ok-y.ensures.lawful c.in_ok-form.form c.in_ok-form.ensures.is c.in_ok-form.ensures.within;
-      ample = c.args.frame.now.ample;
     }
 
 pub returns : goal.returns
@@ -35,12 +34,12 @@ returns c =
     let a = c.args in
     let p = a.frame.now.place in
     let t = held a.frame.now.tables in
-    let u = held c.write_beginning.new.tables in
+    let u = held c.write_beginning.new.frame.tables in
     let y = c.in_ok-y.y in
     let form = c.in_ok-form.form in
     record {
       filled = filled_1 p p.row a.frame.now.slips.now t u _ a.a (declared a.w) y c.in_ok-y.ensures.is
           (declare_filled p t a.w a.a y c.in_ok-y.ensures.lawful form c.in_ok-form.ensures.is u c.write_beginning.ensures.value);
       within = c.in_ok-form.ensures.within;
-      lent = search rules;
+      stays = search rules;
     }

@@ -21,7 +21,7 @@ returns-in_err-form c =
       filled = filled_3 p a.v a.frame.now.slips.now t t r a.v a.b a.c stored_at x y z c.in_ok-x.ensures.is c.in_ok-y.ensures.is c.in_ok-z.ensures.is
           (store_refused p t a.v a.b a.c x y z c.in_ok-y.ensures.lawful r c.in_err-form.field-0.0 c.from_residual-in_err-form.ensures.1 c.in_err-form.ensures.is);
       within = IfOk-from_err r _ c.from_residual-in_err-form.ensures.0;
-      lent = search rules;
+      stays = search rules;
     }
 
 pub list_at-index-requires : goal.list_at-index-requires
@@ -81,5 +81,5 @@ returns c =
       filled = filled_3 p a.v a.frame.now.slips.now t u c.answer.result a.v a.b a.c stored_at x y z c.in_ok-x.ensures.is c.in_ok-y.ensures.is c.in_ok-z.ensures.is
           (store_filled p t a.v a.b a.c x y z ly form g lx lz to.result to.ensures ix.result ix.ensures vs.result vs.ensures u s c.answer.result c.store-stored.ensures.value c.answer.ensures);
       within = answered_within p form s c.answer.result c.answer.ensures c.in_ok-form.ensures.within;
-      lent = search rules;
+      stays = search rules;
     }

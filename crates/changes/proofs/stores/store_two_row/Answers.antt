@@ -24,7 +24,7 @@ returns-in_err-form c =
           (filled_3 p a.v a.frame.now.slips.now t t r a.b a.c a.d (stored_at_two (value_from p.width t a.v x)) y z w c.in_ok-y.ensures.is c.in_ok-z.ensures.is c.in_ok-w.ensures.is
           (refused p a.v t r c.in_err-form.field-0.0 c.from_residual-in_err-form.ensures.1 (stored_at_two (value_from p.width t a.v x) (value_from p.width t a.b y) (value_from p.width t a.c z) (value_from p.width t a.d w)) c.in_err-form.ensures.is));
       within = IfOk-from_err r _ c.from_residual-in_err-form.ensures.0;
-      lent = search rules;
+      stays = search rules;
     }
 
 pub store_at_cells-stored-requires : goal.store_at_cells-stored-requires
@@ -82,5 +82,5 @@ returns c =
           (filled_3 p a.v a.frame.now.slips.now t u r a.b a.c a.d (stored_at_two (value_from p.width t a.v x)) y z w c.in_ok-y.ensures.is c.in_ok-z.ensures.is c.in_ok-w.ensures.is
           (two_filled p t a.v a.b a.c a.d x y z w form g lx ly lz lw to.result row.result column.result from.result to.ensures row.ensures column.ensures from.ensures u s r c.store_at_cells-stored.ensures.value c.answer.ensures));
       within = answered_within p form s r c.answer.ensures c.in_ok-form.ensures.within;
-      lent = search rules;
+      stays = search rules;
     }

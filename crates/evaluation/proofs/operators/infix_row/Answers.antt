@@ -6,17 +6,17 @@ use Rattle.evaluation.proofs.operators.infix_row.Goals as goal
 pub returns-in-Arithmetic-clause-made : goal.returns-in-Arithmetic-clause-made
 returns-in-Arithmetic-clause-made c =
     by_operator c.args.frame.now.place c.args.frame.now.slips.now (held c.args.frame.now.tables) _ c.calculate_row.result c.args.a c.args.b c.args.op (family.Arithmetic c.in-Arithmetic.op) c.in-Arithmetic.is
-    (c.calculate_row.ensures c.args.frame.now.tables.booleans.now c.args.frame.now.tables.characters.now)
+    c.calculate_row.ensures.made
 
 pub returns-in-Order-clause-made : goal.returns-in-Order-clause-made
 returns-in-Order-clause-made c =
     by_operator c.args.frame.now.place c.args.frame.now.slips.now (held c.args.frame.now.tables) _ c.compare_row.result c.args.a c.args.b c.args.op (family.Order c.in-Order.op) c.in-Order.is
-    (c.compare_row.ensures c.args.frame.now.tables.characters.now)
+    c.compare_row.ensures.made
 
 pub returns-in-Logic-clause-made : goal.returns-in-Logic-clause-made
 returns-in-Logic-clause-made c =
     by_operator c.args.frame.now.place c.args.frame.now.slips.now (held c.args.frame.now.tables) _ c.decide_row.result c.args.a c.args.b c.args.op (family.Logic c.in-Logic.op) c.in-Logic.is
-    (c.decide_row.ensures c.args.frame.now.tables.characters.now c.args.frame.now.tables.integers.now)
+    c.decide_row.ensures.made
 
 pub returns-in-Equality-clause-made : goal.returns-in-Equality-clause-made
 returns-in-Equality-clause-made c =
@@ -31,7 +31,7 @@ returns-in-Join-clause-made c =
 pub returns-in-Product-clause-made : goal.returns-in-Product-clause-made
 returns-in-Product-clause-made c =
     by_operator c.args.frame.now.place c.args.frame.now.slips.now (held c.args.frame.now.tables) _ c.multiply_row.result c.args.a c.args.b c.args.op (family.Product) c.in-Product.is
-    (c.multiply_row.ensures c.args.frame.now.tables.booleans.now c.args.frame.now.tables.characters.now)
+    c.multiply_row.ensures.made
 
 pub returns-in-By-clause-made : goal.returns-in-By-clause-made
 returns-in-By-clause-made c =

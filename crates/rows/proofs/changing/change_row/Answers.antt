@@ -12,7 +12,7 @@ returns-in-Declare g c =
     record {
       does = by_change c.args.frame.now.place c.args.head c.args.change (change.Declare c.in-Declare.kind c.in-Declare.shape c.in-Declare.r c.in-Declare.s c.in-Declare.start) here _ c.in-Declare.is (c.declare.ensures.value here);
       room = c.requires.room;
-      lent = search rules;
+      lasts = search rules;
     }
 
 pub returns-in-Assign : goal.returns-in-Assign
@@ -21,7 +21,7 @@ returns-in-Assign g c =
     record {
       does = by_change c.args.frame.now.place c.args.head c.args.change (change.Assign c.in-Assign.v c.in-Assign.a) here _ c.in-Assign.is (c.assign.ensures.value c.args.head here);
       room = c.requires.room;
-      lent = search rules;
+      lasts = search rules;
     }
 
 pub returns-in-Store : goal.returns-in-Store
@@ -30,7 +30,7 @@ returns-in-Store g c =
     record {
       does = by_change c.args.frame.now.place c.args.head c.args.change (change.Store c.in-Store.v c.in-Store.b c.in-Store.c) here _ c.in-Store.is (c.store.ensures.value c.args.head here);
       room = c.requires.room;
-      lent = search rules;
+      lasts = search rules;
     }
 
 pub returns-in-StoreTwo : goal.returns-in-StoreTwo
@@ -39,7 +39,7 @@ returns-in-StoreTwo g c =
     record {
       does = by_change c.args.frame.now.place c.args.head c.args.change (change.StoreTwo c.in-StoreTwo.v c.in-StoreTwo.b c.in-StoreTwo.c c.in-StoreTwo.d) here _ c.in-StoreTwo.is (c.store_two.ensures.value c.args.head here);
       room = c.requires.room;
-      lent = search rules;
+      lasts = search rules;
     }
 
 pub returns-in-Print : goal.returns-in-Print
@@ -48,7 +48,7 @@ returns-in-Print g c =
     record {
       does = by_change c.args.frame.now.place c.args.head c.args.change (change.Print c.in-Print.a) here _ c.in-Print.is (c.print_row.ensures.row here);
       room = c.print_row.ensures.room;
-      lent = search rules;
+      lasts = search rules;
     }
 
 pub returns-in-Read : goal.returns-in-Read
@@ -57,7 +57,7 @@ returns-in-Read g c =
     record {
       does = by_change c.args.frame.now.place c.args.head c.args.change (change.Read c.in-Read.v) here _ c.in-Read.is (c.read_row.ensures.value here);
       room = c.requires.room;
-      lent = search rules;
+      lasts = search rules;
     }
 
 pub returns-in-Return : goal.returns-in-Return
@@ -66,5 +66,5 @@ returns-in-Return g c =
     record {
       does = by_change c.args.frame.now.place c.args.head c.args.change (change.Return c.in-Return.a) here _ c.in-Return.is (c.return_row.ensures here here.tables);
       room = c.requires.room;
-      lent = search rules;
+      lasts = search rules;
     }

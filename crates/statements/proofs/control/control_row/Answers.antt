@@ -12,11 +12,10 @@ reopen-requires c =
       earlier = (reopens g.lines.now g.target g.control c.in-Continue.is g.frame.now.place.row c.requires.ready).earlier;
       domain = domain_read g.lines.now g.target g.control c.in-Continue.is g.frame.now.place.row _ c.requires.ready;
       slip = c.requires.slip;
-      ample = c.args.frame.now.ample;
     }
 
 pub returns-in-Continue-clause-value : goal.returns-in-Continue-clause-value
 returns-in-Continue-clause-value c s =
     let g = c.args in
     turns_back g.lines.now g.target g.control c.in-Continue.is g.frame.now.place (holding s g.frame.now.slips.now (held g.frame.now.tables))
-    (step c.reopen.result (holding s c.reopen.new.slips (held c.reopen.new.tables))) _ c.requires.ready (c.reopen.ensures.value s)
+    (step c.reopen.result (holding s c.reopen.new.frame.slips.now (held c.reopen.new.frame.tables))) _ c.requires.ready (c.reopen.ensures.value s)
