@@ -56,7 +56,7 @@ pub fn advance(frame: &mut Frame, i: u16, a: u16, end: u16, n: usize) -> Result<
         return Ok(After::Row(end as usize + 1));
     }
     let to = place.start_of(i);
-    put_element(x.kind, list, n, to, frame.tables);
+    put_element(x.kind, list, n, to, &mut frame.tables);
     frame.slips[i as usize] = Slip::new(Layout::scalar(x.kind), n as u32);
     Ok(After::Row(i as usize + 1))
 }

@@ -1,5 +1,5 @@
 -- What a row leaves of what it works on.
-use Rattle.std.specs.Prelude.{◌≡◌, ℕ, Option, Result}
+use Rattle.std.specs.Prelude.{◌≡◌, ℕ, length, Option, Result}
 use Rattle.fault.specs.declared.faults.Fault.{Fault}
 use Rattle.meaning.specs.declared.layouts.Layout.{Layout}
 use Rattle.meaning.specs.Plans.{Outcome}
@@ -25,6 +25,7 @@ Fills f i o r g = Filled f.place i o (held f.tables) r (held g.tables)
 pub record Lasts (f g : Frame) : Type 0 where
   pub place : g.place ≡ f.place
   pub slips : g.slips.ghost_name ≡ f.slips.ghost_name
+  pub long_slips : length g.slips.now ≡ length f.slips.now
   pub tables : Kept f.tables g.tables
 
 -- and the slips are as they were

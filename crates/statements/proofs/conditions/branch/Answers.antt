@@ -11,10 +11,10 @@ returns-then-not-is_alone c s =
     branch_stuck c.args.frame.now.place s c.args.frame.now.slips.now (held c.args.frame.now.tables) c.args.a c.in_ok-x.x c.in_ok-x.ensures.is c.args.target c.fault.result c.fault.ensures
     (c.if-not-is_alone.ensures ∙ ap (alone Boolean) c.typing.ensures)
 
-pub bounds-tables-start_of : goal.bounds-tables-start_of
-bounds-tables-start_of c =
+pub bounds-frame-start_of : goal.bounds-frame-start_of
+bounds-frame-start_of c =
     let lone = c.if-not-is_alone.ensures ∙ ap (alone Boolean) c.typing.ensures in
-    let there = cell_there c.args.frame.now.place.width c.in_ok-x.x c.in_ok-x.ensures.lawful (sym lone) c.args.a c.args.frame.now.place.row (length c.args.frame.now.tables.booleans.now) c.requires.before c.args.frame.now.ample in
+    let there = cell_there c.args.frame.now.place.width c.in_ok-x.x c.in_ok-x.ensures.lawful (sym lone) c.args.a c.args.frame.now.place.row (length c.args.frame.now.tables.booleans.now) c.requires.before (omega (arith, c.args.frame.now.ample.booleans)) in
     omega (arith, there, c.start_of.ensures)
 
 pub returns-then-holds : goal.returns-then-holds
