@@ -16,11 +16,11 @@ use Rattle.meaning.specs.Acts.{Answer, step, declares, refills}
 use Rattle.statements.specs.Frames.{settled}
 use Rattle.rows.specs.Changing.{begun, start_outcome, beginning}
 
--- a variable took its elements
-pub refilled : (p : Place) (i : ℕ) (s : State) (o : Outcome) (r : Result Layout Fault) (u : Tables) (answer : Answer) → Filled p i o s.tables r u → answer ≡ settled p r
-    → step answer (holding s s.slips u) ≡ refills p.width p.row p.line s i o
-refilled p i s (gives v) r u answer h e = λ n. step ((e ∙ ap (settled p) h.0) n) (holding s s.slips (h.1 n))
-refilled p i s (faults c element) r u answer h e = λ n. step ((e ∙ ap (settled p) h.0) n) (holding s s.slips (h.1 n))
+-- a variable took its elements, and the slips stayed
+pub refilled : (p : Place) (i : ℕ) (s : State) (o : Outcome) (r : Result Layout Fault) (u : Tables) (answer : Answer) (after : List Slip) → Filled p i o s.tables r u → answer ≡ settled p r → after ≡ s.slips
+    → step answer (holding s after u) ≡ refills p.width p.row p.line s i o
+refilled p i s (gives v) r u answer after h e f = λ n. step ((e ∙ ap (settled p) h.0) n) (holding s (f n) (h.1 n))
+refilled p i s (faults c element) r u answer after h e f = λ n. step ((e ∙ ap (settled p) h.0) n) (holding s (f n) (h.1 n))
 
 -- a declaration took its value
 pub declared : (p : Place) (s : State) (o : Outcome) (r : Result Layout Fault) (u : Tables) (answer : Answer) (after : List Slip) → Filled p p.row o s.tables r u → answer ≡ settled p r → after ≡ begun p s.slips r

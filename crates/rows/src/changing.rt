@@ -46,6 +46,6 @@ pub fn change_row<S: Source>(
         Change::StoreTwo(v, b, c, d) => { store_two(frame, v, b, c, d) }
         Change::Print(a) => { print_row(frame, a, output, printed) }
         Change::Read(v) => read_row(frame, v, source, taken, stream),
-        Change::Return(a) => return_row(place, head, a, frame.slips),
+        Change::Return(a) => return_row(frame, head, a),
     }
 }

@@ -71,7 +71,7 @@ pub fn declare(frame: &mut Frame, w: Type, start: Start) -> Result<After, Fault>
 pub fn assign(frame: &mut Frame, v: u16, a: u16) -> Result<After, Fault>
     requires before { a < frame.old.place.row }
     requires under { v < a }
-    ensures value { (head : Typing) → InTables (changing frame.old.place head (Assign v a)) frame.old.slips.now (held frame.old.tables) result frame.old.slips.now (held frame.new.tables) }
+    ensures value { (head : Typing) → InTables (changing frame.old.place head (Assign v a)) frame.old.slips.now (held frame.old.tables) result frame.new.slips.now (held frame.new.tables) }
     ensures stays { Stays frame.old frame.new }
 {
     let place = frame.place;
@@ -85,7 +85,7 @@ pub fn store(frame: &mut Frame, v: u16, b: u16, c: u16) -> Result<After, Fault>
     requires value { c < frame.old.place.row }
     requires under_index { v < b }
     requires under_value { v < c }
-    ensures value { (head : Typing) → InTables (changing frame.old.place head (Store v b c)) frame.old.slips.now (held frame.old.tables) result frame.old.slips.now (held frame.new.tables) }
+    ensures value { (head : Typing) → InTables (changing frame.old.place head (Store v b c)) frame.old.slips.now (held frame.old.tables) result frame.new.slips.now (held frame.new.tables) }
     ensures stays { Stays frame.old frame.new }
 {
     let place = frame.place;
@@ -99,7 +99,7 @@ pub fn store_two(frame: &mut Frame, v: u16, b: u16, c: u16, d: u16) -> Result<Af
     requires column { c < frame.old.place.row }
     requires value { d < frame.old.place.row }
     requires before { v < frame.old.place.row }
-    ensures value { (head : Typing) → InTables (changing frame.old.place head (StoreTwo v b c d)) frame.old.slips.now (held frame.old.tables) result frame.old.slips.now (held frame.new.tables) }
+    ensures value { (head : Typing) → InTables (changing frame.old.place head (StoreTwo v b c d)) frame.old.slips.now (held frame.old.tables) result frame.new.slips.now (held frame.new.tables) }
     ensures stays { Stays frame.old frame.new }
 {
     let place = frame.place;

@@ -1,9 +1,12 @@
 -- Each arm is one of the changes, in the whole state.
-use Rattle.std.proofs.Common.{rules}
+use Rattle.std.proofs.Common.{◌≡◌, List, sym, subst, rules}
 use Rattle.instruction.specs.declared.instructions.Change.TheVariants as change
-use Rattle.statements.specs.Frames.{state_of}
+use Rattle.meaning.specs.declared.slips.Slip.{Slip}
+use Rattle.meaning.specs.Acts.{step}
+use Rattle.statements.specs.Frames.{state_of, inputting}
 use Rattle.rows.proofs.Choosing.{by_change}
 use Rattle.tables.specs.Lent.{held}
+use Rattle.tables.proofs.Staying.{same_slips}
 use Rattle.rows.proofs.changing.change_row.Goals as goal
 
 pub returns-in-Declare : goal.returns-in-Declare
@@ -55,7 +58,8 @@ pub returns-in-Read : goal.returns-in-Read
 returns-in-Read g c =
     let here = state_of c.args.taken.now c.args.stream.now c.args.frame.now.slips.now (held c.args.frame.now.tables) (g.S.Source.waiting c.args.source.now) c.args.output.now c.args.printed.now in
     record {
-      does = by_change c.args.frame.now.place c.args.head c.args.change (change.Read c.in-Read.v) here _ c.in-Read.is (c.read_row.ensures.value here);
+      does = by_change c.args.frame.now.place c.args.head c.args.change (change.Read c.in-Read.v) here _ c.in-Read.is (subst (λ (xs : List Slip). step c.read_row.result (state_of c.read_row.new.taken c.read_row.new.stream xs (held c.read_row.new.frame.tables) (g.S.Source.waiting c.read_row.new.source) c.args.output.now c.args.printed.now) ≡ inputting c.args.frame.now.place c.in-Read.v here)
+          (sym (same_slips c.args.frame.now c.read_row.new.frame c.read_row.ensures.stays)) (c.read_row.ensures.value here));
       room = c.requires.room;
       lasts = search rules;
     }
