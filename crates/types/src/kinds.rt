@@ -1,9 +1,12 @@
-//! What a value may be: its kind, its shape and its sizes, each with its number in a file.
-ghost use Rattle.std.specs.Prelude.{◌≡◌, ℕ, MatchOption, ◌≢◌};
-ghost use Rattle.types.specs.Types.{kind_number, shape_number, size_number, form_number, kind_of, shape_of, same_kind, same_shape, written};
+//! What a value may be: its kind and its shape; and the form of a sheet. Each has its number in a file.
+ghost use Rattle.std.specs.Prelude.{◌≡◌};
+ghost use Rattle.types.specs.Decoding.{Decodes};
+ghost use Rattle.types.specs.Types.{kind_number, shape_number, form_number, kind_of, shape_of, form_of};
+
+use crate::unknown::UnknownNumber;
 
 /// What the elements of a value are.
-#[derive(Clone, Copy, Debug, PartialEq)]
+#[derive(Clone, Copy, Debug, PartialEq, Eq, Hash)]
 pub enum Kind {
     Boolean,
     Character,
@@ -11,7 +14,7 @@ pub enum Kind {
 }
 
 /// How the elements of a value are arranged. An interval is held as its two bounds.
-#[derive(Clone, Copy, Debug, PartialEq)]
+#[derive(Clone, Copy, Debug, PartialEq, Eq, Hash)]
 pub enum Shape {
     Scalar,
     Vector,
@@ -19,126 +22,90 @@ pub enum Shape {
     Interval,
 }
 
-/// A count of rows or columns, where it is known.
-#[derive(Clone, Copy, Debug, PartialEq)]
-pub enum Size {
-    Open,
-    Known(u16),
-}
-
 /// Which set of rules a sheet is written for.
-#[derive(Clone, Copy, Debug, PartialEq)]
+#[derive(Clone, Copy, Debug, PartialEq, Eq, Hash)]
 pub enum Form {
     First,
 }
 
-impl Kind {
-    /// The number that stands for this kind in a file.
-    pub fn number(self) -> u16
-        ensures { result ≡ kind_number self }
-    {
-        match self {
+/// The number that stands for a kind in a file.
+impl From<Kind> for u16 {
+    ghost from_gives = { λ k n. n ≡ kind_number k };
+
+    fn from(value: Kind) -> u16 {
+        match value {
             Kind::Boolean => 1,
             Kind::Character => 2,
             Kind::Integer => 3,
         }
     }
+}
 
-    /// The kind that has this number, if one has.
-    pub fn from_number(n: u16) -> Option<Kind>
-        ensures value { result ≡ kind_of n }
-        ensures exact { MatchOption result ((k : Kind) → kind_number k ≢ n) (λ k. kind_number k ≡ n) }
-    {
-        match n {
-            1 => Some(Kind::Boolean),
-            2 => Some(Kind::Character),
-            3 => Some(Kind::Integer),
-            _ => None,
+impl TryFrom<u16> for Kind {
+    type Error = UnknownNumber;
+
+    ghost try_from_gives = { Decodes kind_number kind_of };
+
+    fn try_from(value: u16) -> Result<Kind, UnknownNumber> {
+        match value {
+            1 => Ok(Kind::Boolean),
+            2 => Ok(Kind::Character),
+            3 => Ok(Kind::Integer),
+            _ => Err(UnknownNumber(value)),
         }
-    }
-
-    /// Whether the two are one kind.
-    pub fn same(self, other: Kind) -> bool
-        ensures { result ≡ same_kind self other }
-    {
-        self.number() == other.number()
     }
 }
 
-impl Shape {
-    /// The number that stands for this shape in a file.
-    pub fn number(self) -> u16
-        ensures { result ≡ shape_number self }
-    {
-        match self {
+/// The number that stands for a shape in a file.
+impl From<Shape> for u16 {
+    ghost from_gives = { λ k n. n ≡ shape_number k };
+
+    fn from(value: Shape) -> u16 {
+        match value {
             Shape::Scalar => 1,
             Shape::Vector => 2,
             Shape::Matrix => 3,
             Shape::Interval => 4,
         }
     }
-
-    /// The shape that has this number, if one has.
-    pub fn from_number(n: u16) -> Option<Shape>
-        ensures value { result ≡ shape_of n }
-        ensures exact { MatchOption result ((k : Shape) → shape_number k ≢ n) (λ k. shape_number k ≡ n) }
-    {
-        match n {
-            1 => Some(Shape::Scalar),
-            2 => Some(Shape::Vector),
-            3 => Some(Shape::Matrix),
-            4 => Some(Shape::Interval),
-            _ => None,
-        }
-    }
-
-    /// Whether the two are one shape.
-    pub fn same(self, other: Shape) -> bool
-        ensures { result ≡ same_shape self other }
-    {
-        self.number() == other.number()
-    }
 }
 
-impl Size {
-    /// The number that stands for this size in a file: 65535 for an open one.
-    pub fn number(self) -> u16
-        ensures { result ≡ size_number self }
-    {
-        match self {
-            Size::Open => 65535,
-            Size::Known(n) => n,
-        }
-    }
+impl TryFrom<u16> for Shape {
+    type Error = UnknownNumber;
 
-    /// The size that this number stands for.
-    pub fn from_number(n: u16) -> Size
-        ensures { result ≡ written n }
-    {
-        match n {
-            65535 => Size::Open,
-            _ => Size::Known(n),
+    ghost try_from_gives = { Decodes shape_number shape_of };
+
+    fn try_from(value: u16) -> Result<Shape, UnknownNumber> {
+        match value {
+            1 => Ok(Shape::Scalar),
+            2 => Ok(Shape::Vector),
+            3 => Ok(Shape::Matrix),
+            4 => Ok(Shape::Interval),
+            _ => Err(UnknownNumber(value)),
         }
     }
 }
 
-impl Form {
-    /// The number that stands for this form in a file.
-    pub fn number(self) -> u16
-        ensures { result ≡ form_number self }
-    {
-        match self {
+/// The number that stands for a form in a file.
+impl From<Form> for u16 {
+    ghost from_gives = { λ k n. n ≡ form_number k };
+
+    fn from(value: Form) -> u16 {
+        match value {
             Form::First => 1,
         }
     }
+}
 
-    /// The form that has this number, if one has.
-    pub fn from_number(n: u16) -> Option<Form>
-        ensures { MatchOption result ((k : Form) → form_number k ≢ n) (λ k. form_number k ≡ n) }
-    {
-        match n {
-            1 => Some(Form::First),
-            _ => None,
+impl TryFrom<u16> for Form {
+    type Error = UnknownNumber;
+
+    ghost try_from_gives = { Decodes form_number form_of };
+
+    fn try_from(value: u16) -> Result<Form, UnknownNumber> {
+        match value {
+            1 => Ok(Form::First),
+            _ => Err(UnknownNumber(value)),
         }
     }
 }
