@@ -8,24 +8,24 @@ use crate::unknown::UnknownNumber;
 /// What the elements of a value are.
 #[derive(Clone, Copy, Debug, PartialEq, Eq, Hash)]
 pub enum Kind {
-    Boolean,
-    Character,
-    Integer,
+    Boolean = 1,
+    Character = 2,
+    Integer = 3,
 }
 
 /// How the elements of a value are arranged. An interval is held as its two bounds.
 #[derive(Clone, Copy, Debug, PartialEq, Eq, Hash)]
 pub enum Shape {
-    Scalar,
-    Vector,
-    Matrix,
-    Interval,
+    Scalar = 1,
+    Vector = 2,
+    Matrix = 3,
+    Interval = 4,
 }
 
 /// Which set of rules a sheet is written for.
 #[derive(Clone, Copy, Debug, PartialEq, Eq, Hash)]
 pub enum Form {
-    First,
+    First = 1,
 }
 
 /// The number that stands for a kind in a file.
@@ -33,11 +33,7 @@ impl From<Kind> for u16 {
     ghost from_gives = { λ k n. n ≡ kind_number k };
 
     fn from(value: Kind) -> u16 {
-        match value {
-            Kind::Boolean => 1,
-            Kind::Character => 2,
-            Kind::Integer => 3,
-        }
+        value as u16
     }
 }
 
@@ -61,12 +57,7 @@ impl From<Shape> for u16 {
     ghost from_gives = { λ k n. n ≡ shape_number k };
 
     fn from(value: Shape) -> u16 {
-        match value {
-            Shape::Scalar => 1,
-            Shape::Vector => 2,
-            Shape::Matrix => 3,
-            Shape::Interval => 4,
-        }
+        value as u16
     }
 }
 
@@ -91,9 +82,7 @@ impl From<Form> for u16 {
     ghost from_gives = { λ k n. n ≡ form_number k };
 
     fn from(value: Form) -> u16 {
-        match value {
-            Form::First => 1,
-        }
+        value as u16
     }
 }
 
