@@ -40,6 +40,7 @@ pub fn copy_rows(room: Room, from: &[Row]) -> Vec<Row>
 }
 
 /// Writes `bytes` into `out`, from `at` on.
+#[tactic(auto, using(crate::proofs::Places::put_placed))]
 pub fn put(out: &mut [u8], at: usize, bytes: &[u8])
     requires { at + length bytes.now ≤ length out.old }
     ensures { out.new ≡ placed out.old at bytes.now }
@@ -52,6 +53,7 @@ pub fn put_rows(out: &mut [u8], start: usize, rows: &[Row])
     requires { start + 20 * length rows.now ≤ length out.old }
     ensures { out.new ≡ placed out.old start (flat_map row_bytes rows.now) }
 {
+    // Of `chunks_exact_mut` no proof learns what the slice ends as, so each row is put at its place.
     for (i, row) in rows.iter().enumerate() {
         put(out, start + ROW * i, &row_bytes(row));
     }
