@@ -23,11 +23,12 @@ impl<X: Copy> CastTo<X> for X {
     }
 }
 
+// An impl for each pair of kinds: one over `From<bool>` would overlap the cast of a kind to its own.
 impl CastTo<i32> for bool {
     ghost casts = { one_or_zero };
 
     fn cast(self) -> i32 {
-        if self { 1 } else { 0 }
+        i32::from(self)
     }
 }
 
@@ -35,7 +36,7 @@ impl CastTo<i8> for bool {
     ghost casts = { one_or_zero };
 
     fn cast(self) -> i8 {
-        if self { 1 } else { 0 }
+        i8::from(self)
     }
 }
 
@@ -51,7 +52,7 @@ impl CastTo<i32> for i8 {
     ghost casts = { λ x. x };
 
     fn cast(self) -> i32 {
-        self as i32
+        i32::from(self)
     }
 }
 
@@ -67,12 +68,7 @@ impl CastTo<i8> for i32 {
     ghost casts = { low_byte };
 
     fn cast(self) -> i8 {
-        let low = self.rem_euclid(256);
-        if low < 128 {
-            low as i8
-        } else {
-            (low - 256) as i8
-        }
+        (self.rem_euclid(256) as u8).cast_signed()
     }
 }
 

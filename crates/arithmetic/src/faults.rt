@@ -3,29 +3,26 @@ ghost use Rattle.std.specs.Prelude.{◌≡◌, Some};
 ghost use Rattle.std.specs.Result.{result_map_both};
 ghost use Rattle.arithmetic.specs.Faults.{number_of, text_of, at_element, at_row};
 
+use std::error::Error;
 use std::fmt;
 
 /// Why two integers have no result under an operator.
-#[derive(Clone, Copy, PartialEq, Eq, Debug)]
+#[derive(Clone, Copy, PartialEq, Eq, Hash, Debug)]
 pub enum ArithmeticFault {
     /// The exact result does not fit 32 bits.
-    Overflow,
+    Overflow = 20,
     /// A number was divided by 0.
-    DivisorZero,
+    DivisorZero = 21,
     /// A number was raised to a power below 0.
-    NegativeExponent,
+    NegativeExponent = 22,
 }
 
-impl ArithmeticFault {
-    /// The number that a host is told.
-    pub fn number(self) -> u8
-        ensures { result ≡ number_of self }
-    {
-        match self {
-            ArithmeticFault::Overflow => 20,
-            ArithmeticFault::DivisorZero => 21,
-            ArithmeticFault::NegativeExponent => 22,
-        }
+/// The number that a host is told.
+impl From<ArithmeticFault> for u8 {
+    ghost from_gives = { λ f n. n ≡ number_of f };
+
+    fn from(value: ArithmeticFault) -> u8 {
+        value as u8
     }
 }
 
@@ -41,8 +38,10 @@ impl fmt::Display for ArithmeticFault {
     }
 }
 
+impl Error for ArithmeticFault {}
+
 /// A fault and the element of the result that met it, counted from 1, rows before columns.
-#[derive(Clone, Copy, PartialEq, Eq, Debug)]
+#[derive(Clone, Copy, PartialEq, Eq, Hash, Debug)]
 pub struct ElementFault {
     pub element: usize,
     pub fault: ArithmeticFault,
@@ -61,7 +60,7 @@ impl From<ArithmeticFault> for ElementFault {
 }
 
 /// An element's fault together with the row of the sheet, and the line that this row came from.
-#[derive(Clone, Copy, PartialEq, Eq, Debug)]
+#[derive(Clone, Copy, PartialEq, Eq, Hash, Debug)]
 pub struct Located {
     pub row: u16,
     pub line: u16,
@@ -73,13 +72,10 @@ pub struct Located {
 pub fn at_row<T>(r: Result<T, ElementFault>, row: u16, line: u16) -> Result<T, Located>
     ensures { result ≡ result_map_both (λ x. x) (at_row row line) r }
 {
-    match r {
-        Ok(x) => Ok(x),
-        Err(ElementFault { element, fault }) => Err(Located {
-            row,
-            line,
-            element,
-            fault,
-        }),
-    }
+    r.map_err(|ElementFault { element, fault }| Located {
+        row,
+        line,
+        element,
+        fault,
+    })
 }

@@ -1,6 +1,5 @@
 //! Operators on integers: the exact result, or the fault that says why there is none.
-ghost use Rattle.std.specs.Prelude.{◌≡◌};
-ghost use Rattle.arithmetic.specs.Exact.{bounded, exact, added, subtracted, multiplied, divided, remains, raised, negated};
+ghost use Rattle.arithmetic.specs.Exact.{exact, added, subtracted, multiplied, divided, remains, raised, negated};
 
 use crate::faults::ArithmeticFault;
 use crate::operators::{Function, Operator};
@@ -14,19 +13,6 @@ pub enum Arithmetic {
     Divide,
     Remainder,
     Power,
-}
-
-/// The integer, if it fits 32 bits.
-fn narrow(wide: i64) -> Result<i32, ArithmeticFault>
-    ensures { result ≡ bounded wide }
-{
-    if wide < i32::MIN as i64 {
-        return Err(ArithmeticFault::Overflow);
-    }
-    if wide > i32::MAX as i64 {
-        return Err(ArithmeticFault::Overflow);
-    }
-    Ok(wide as i32)
 }
 
 /// `x + y`.
@@ -61,7 +47,7 @@ impl Operator<i32, Result<i32, ArithmeticFault>> for Product {
     ghost gives = { λ _. multiplied };
 
     fn apply(&self, x: i32, y: i32) -> Result<i32, ArithmeticFault> {
-        narrow(x as i64 * y as i64)
+        x.checked_mul(y).ok_or(ArithmeticFault::Overflow)
     }
 }
 
@@ -91,11 +77,7 @@ impl Operator<i32, Result<i32, ArithmeticFault>> for Remainder {
         if y == 0 {
             return Err(ArithmeticFault::DivisorZero);
         }
-        // -1 divides every number, and the machine's remainder by it overflows at the least one.
-        if y == -1 {
-            return Ok(0);
-        }
-        Ok(x % y)
+        Ok(x.wrapping_rem(y))
     }
 }
 
@@ -110,7 +92,8 @@ impl Operator<i32, Result<i32, ArithmeticFault>> for Power {
         if y < 0 {
             return Err(ArithmeticFault::NegativeExponent);
         }
-        x.checked_pow(y as u32).ok_or(ArithmeticFault::Overflow)
+        x.checked_pow(y.cast_unsigned())
+            .ok_or(ArithmeticFault::Overflow)
     }
 }
 
@@ -137,6 +120,6 @@ impl Function<i32, Result<i32, ArithmeticFault>> for Negative {
     ghost gives = { λ _. negated };
 
     fn apply(&self, x: i32) -> Result<i32, ArithmeticFault> {
-        narrow(-(x as i64))
+        x.checked_neg().ok_or(ArithmeticFault::Overflow)
     }
 }

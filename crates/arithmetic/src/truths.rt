@@ -13,6 +13,8 @@ pub enum Order {
     AtLeast,
 }
 
+// The orders are types of their own, since a loop over cells that is given one has no choice inside it.
+
 /// `x < y`.
 #[derive(Clone, Copy)]
 pub struct Under;

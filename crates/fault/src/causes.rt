@@ -3,11 +3,12 @@ ghost use Rattle.std.specs.Prelude.{◌≡◌};
 ghost use Rattle.fault.specs.Faults.{cause_number};
 
 use arithmetic::faults::ArithmeticFault;
+use std::error::Error;
 use std::fmt;
 
 /// What went wrong. Of several, the one with the greatest number is told, but for those of elements, which come in
 /// the elements' order.
-#[derive(Clone, Copy, Debug, PartialEq)]
+#[derive(Clone, Copy, Debug, PartialEq, Eq, Hash)]
 pub enum Cause {
     /// An element has no result.
     Arithmetic(ArithmeticFault),
@@ -23,13 +24,13 @@ pub enum Cause {
     NoRule,
 }
 
-impl Cause {
-    /// The number that a host is told.
-    pub fn number(self) -> u8
-        ensures { result ≡ cause_number self }
-    {
-        match self {
-            Cause::Arithmetic(fault) => fault.number(),
+/// The number that a host is told.
+impl From<Cause> for u8 {
+    ghost from_gives = { λ c n. n ≡ cause_number c };
+
+    fn from(value: Cause) -> u8 {
+        match value {
+            Cause::Arithmetic(fault) => u8::from(fault),
             Cause::Index => 23,
             Cause::SizesDiffer => 24,
             Cause::Beyond => 25,
@@ -51,3 +52,5 @@ impl fmt::Display for Cause {
         }
     }
 }
+
+impl Error for Cause {}

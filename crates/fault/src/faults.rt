@@ -4,11 +4,12 @@ ghost use Rattle.fault.specs.Faults.{fault_of, whole_row, index_at};
 
 use crate::causes::Cause;
 use arithmetic::faults::Located;
+use std::error::Error;
 use std::fmt;
 
 /// Why a row has no result, with the row, the line of the source that it came from, and the element that met the
 /// fault: counted from 1 in the result, for an index in the index list, and 0 where the row as a whole is at fault.
-#[derive(Clone, Copy, Debug, PartialEq)]
+#[derive(Clone, Copy, Debug, PartialEq, Eq, Hash)]
 pub struct Fault {
     pub row: u16,
     pub line: u16,
@@ -61,7 +62,7 @@ impl fmt::Display for Fault {
         let row = self.row;
         let line = self.line;
         let element = self.element;
-        let number = self.cause.number();
+        let number = u8::from(self.cause);
         let cause = self.cause;
         write!(
             f,
@@ -69,3 +70,5 @@ impl fmt::Display for Fault {
         )
     }
 }
+
+impl Error for Fault {}

@@ -1,2 +1,3 @@
 pub mod Types
+pub mod Decoding
 pub mod Typings

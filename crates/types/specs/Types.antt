@@ -6,8 +6,10 @@ use Rattle.types.specs.declared.kinds.Kind.{Kind}
 use Rattle.types.specs.declared.kinds.Kind.TheVariants.{Boolean, Character, Integer}
 use Rattle.types.specs.declared.kinds.Shape.{Shape}
 use Rattle.types.specs.declared.kinds.Shape.TheVariants.{Scalar, Vector, Matrix, Interval}
-use Rattle.types.specs.declared.kinds.Size.{Size}
-use Rattle.types.specs.declared.kinds.Size.TheVariants.{Open, Known}
+
+-- a count of rows or columns, where it is known
+abbrev pub Size : Type 0
+Size = Option ℕ
 
 -- ---- numbers
 abbrev pub kind_number : Kind → ℕ
@@ -22,8 +24,8 @@ shape_number Matrix = 3
 shape_number Interval = 4
 
 abbrev pub size_number : Size → ℕ
-size_number Open = 65535
-size_number (Known n) = n
+size_number None = 65535
+size_number (Some n) = n
 
 abbrev pub form_number : Form → ℕ
 form_number First = 1
@@ -35,9 +37,12 @@ kind_of n = cond (n == 1) (Some Boolean) (cond (n == 2) (Some Character) (cond (
 abbrev pub shape_of : ℕ → Option Shape
 shape_of n = cond (n == 1) (Some Scalar) (cond (n == 2) (Some Vector) (cond (n == 3) (Some Matrix) (cond (n == 4) (Some Interval) None)))
 
+abbrev pub form_of : ℕ → Option Form
+form_of n = cond (n == 1) (Some First) None
+
 -- a size as it is written
 abbrev pub written : ℕ → Size
-written n = cond (n == 65535) Open (Known n)
+written n = cond (n == 65535) None (Some n)
 
 abbrev pub same_kind : Kind → Kind → Bool
 same_kind k l = kind_number k == kind_number l
@@ -48,60 +53,60 @@ same_shape x y = shape_number x == shape_number y
 -- ---- sizes
 -- this very size
 abbrev pub exactly : ℕ → Size → Bool
-exactly n Open = false
-exactly n (Known m) = m == n
+exactly n None = false
+exactly n (Some m) = m == n
 
 abbrev pub is_known : Size → Bool
-is_known Open = false
-is_known (Known n) = true
+is_known None = false
+is_known (Some n) = true
 
 -- two sizes that must be equal may be: they are not both known and different
 abbrev pub agree : Size → Size → Bool
-agree Open y = true
-agree (Known m) Open = true
-agree (Known m) (Known n) = m == n
+agree None y = true
+agree (Some m) None = true
+agree (Some m) (Some n) = m == n
 
 -- the first may be at most the second
 abbrev pub fits_in : Size → Size → Bool
-fits_in Open y = true
-fits_in (Known m) Open = true
-fits_in (Known m) (Known n) = nat_le m n
+fits_in None y = true
+fits_in (Some m) None = true
+fits_in (Some m) (Some n) = nat_le m n
 
 -- the first, or the second where the first is not known
 abbrev pub or_else : Size → Size → Size
-or_else Open y = y
-or_else (Known m) y = Known m
+or_else None y = y
+or_else (Some m) y = Some m
 
 -- one after the other
 abbrev pub plus : Size → Size → Size
-plus Open y = Open
-plus (Known m) Open = Open
-plus (Known m) (Known n) = Known (m + n)
+plus None y = None
+plus (Some m) None = None
+plus (Some m) (Some n) = Some (m + n)
 
 -- the larger
 abbrev pub larger : Size → Size → Size
-larger Open y = Open
-larger (Known m) Open = Open
-larger (Known m) (Known n) = Known (max m n)
+larger None y = None
+larger (Some m) None = None
+larger (Some m) (Some n) = Some (max m n)
 
 -- a size that 16 bits hold, or nothing
 abbrev pub short : Size → Bool
-short Open = true
-short (Known n) = nat_le n 65535
+short None = true
+short (Some n) = nat_le n 65535
 
 abbrev pub capped : Size → Option Size
 capped x = cond (short x) (Some x) None
 
 -- open, or at most w
 abbrev pub within : ℕ → Size → Bool
-within w Open = true
-within w (Known n) = nat_le n w
+within w None = true
+within w (Some n) = nat_le n w
 
 -- not both known, or at most w elements together
 abbrev pub area_within : ℕ → Size → Size → Bool
-area_within w Open s = true
-area_within w (Known m) Open = true
-area_within w (Known m) (Known n) = nat_le (m * n) w
+area_within w None s = true
+area_within w (Some m) None = true
+area_within w (Some m) (Some n) = nat_le (m * n) w
 
 -- nothing that is known goes beyond w
 abbrev pub room : ℕ → Size → Size → Bool

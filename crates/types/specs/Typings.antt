@@ -1,28 +1,26 @@
 -- What is known of a value: the types that may be written, and what two types have to do with each other.
-use Rattle.std.specs.Prelude.{ℕ, Bool, true, false, cond, not, ◌&&◌, ◌||◌}
+use Rattle.std.specs.Prelude.{ℕ, Bool, true, false, cond, not, ◌&&◌, ◌||◌, Some, None}
 use Rattle.types.specs.declared.kinds.Kind.{Kind}
 use Rattle.types.specs.declared.kinds.Kind.TheVariants.{Boolean, Character, Integer}
 use Rattle.types.specs.declared.kinds.Shape.{Shape}
 use Rattle.types.specs.declared.kinds.Shape.TheVariants.{Scalar, Vector, Matrix, Interval}
-use Rattle.types.specs.declared.kinds.Size.{Size}
-use Rattle.types.specs.declared.kinds.Size.TheVariants.{Open, Known}
 use Rattle.types.specs.declared.typing.Typing.{Typing}
-use Rattle.types.specs.Types.{same_kind, same_shape, exactly, agree, or_else, room}
+use Rattle.types.specs.Types.{Size, same_kind, same_shape, exactly, agree, or_else, room}
 
 abbrev pub typing : Kind → Shape → Size → Size → Typing
 typing k x r s = record { kind = k; shape = x; r = r; s = s }
 
 abbrev pub scalar : Kind → Typing
-scalar k = typing k Scalar (Known 1) (Known 1)
+scalar k = typing k Scalar (Some 1) (Some 1)
 
 abbrev pub vector : Kind → Size → Typing
-vector k s = typing k Vector (Known 1) s
+vector k s = typing k Vector (Some 1) s
 
 abbrev pub matrix : Kind → Size → Size → Typing
 matrix k r s = typing k Matrix r s
 
 abbrev pub interval : Typing
-interval = typing Integer Interval (Known 1) (Known 2)
+interval = typing Integer Interval (Some 1) (Some 2)
 
 -- ---- kinds and shapes
 abbrev pub is : Shape → Typing → Bool
@@ -64,7 +62,7 @@ lawful w t = type_fits t.kind t.shape t.r t.s && room w t.r t.s
 -- ---- sizes
 -- the length of a value that is taken as a vector: that of an interval is open
 abbrev pub span : Typing → Size
-span t = cond (is Interval t) Open t.s
+span t = cond (is Interval t) None t.s
 
 abbrev pub matches : Typing → Typing → Bool
 matches t u = agree t.r u.r && agree t.s u.s

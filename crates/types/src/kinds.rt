@@ -1,144 +1,100 @@
-//! What a value may be: its kind, its shape and its sizes, each with its number in a file.
-ghost use Rattle.std.specs.Prelude.{◌≡◌, ℕ, MatchOption, ◌≢◌};
-ghost use Rattle.types.specs.Types.{kind_number, shape_number, size_number, form_number, kind_of, shape_of, same_kind, same_shape, written};
+//! What a value may be: its kind and its shape; and the form of a sheet. Each has its number in a file.
+ghost use Rattle.std.specs.Prelude.{◌≡◌};
+ghost use Rattle.types.specs.Decoding.{Decodes};
+ghost use Rattle.types.specs.Types.{kind_number, shape_number, form_number, kind_of, shape_of, form_of};
+
+use crate::unknown::UnknownNumber;
 
 /// What the elements of a value are.
-#[derive(Clone, Copy, Debug, PartialEq)]
+#[derive(Clone, Copy, Debug, PartialEq, Eq, Hash)]
 pub enum Kind {
-    Boolean,
-    Character,
-    Integer,
+    Boolean = 1,
+    Character = 2,
+    Integer = 3,
 }
 
 /// How the elements of a value are arranged. An interval is held as its two bounds.
-#[derive(Clone, Copy, Debug, PartialEq)]
+#[derive(Clone, Copy, Debug, PartialEq, Eq, Hash)]
 pub enum Shape {
-    Scalar,
-    Vector,
-    Matrix,
-    Interval,
-}
-
-/// A count of rows or columns, where it is known.
-#[derive(Clone, Copy, Debug, PartialEq)]
-pub enum Size {
-    Open,
-    Known(u16),
+    Scalar = 1,
+    Vector = 2,
+    Matrix = 3,
+    Interval = 4,
 }
 
 /// Which set of rules a sheet is written for.
-#[derive(Clone, Copy, Debug, PartialEq)]
+#[derive(Clone, Copy, Debug, PartialEq, Eq, Hash)]
 pub enum Form {
-    First,
+    First = 1,
 }
 
-impl Kind {
-    /// The number that stands for this kind in a file.
-    pub fn number(self) -> u16
-        ensures { result ≡ kind_number self }
-    {
-        match self {
-            Kind::Boolean => 1,
-            Kind::Character => 2,
-            Kind::Integer => 3,
-        }
-    }
+/// The number that stands for a kind in a file.
+impl From<Kind> for u16 {
+    ghost from_gives = { λ k n. n ≡ kind_number k };
 
-    /// The kind that has this number, if one has.
-    pub fn from_number(n: u16) -> Option<Kind>
-        ensures value { result ≡ kind_of n }
-        ensures exact { MatchOption result ((k : Kind) → kind_number k ≢ n) (λ k. kind_number k ≡ n) }
-    {
-        match n {
-            1 => Some(Kind::Boolean),
-            2 => Some(Kind::Character),
-            3 => Some(Kind::Integer),
-            _ => None,
-        }
-    }
-
-    /// Whether the two are one kind.
-    pub fn same(self, other: Kind) -> bool
-        ensures { result ≡ same_kind self other }
-    {
-        self.number() == other.number()
+    fn from(value: Kind) -> u16 {
+        value as u16
     }
 }
 
-impl Shape {
-    /// The number that stands for this shape in a file.
-    pub fn number(self) -> u16
-        ensures { result ≡ shape_number self }
-    {
-        match self {
-            Shape::Scalar => 1,
-            Shape::Vector => 2,
-            Shape::Matrix => 3,
-            Shape::Interval => 4,
-        }
-    }
+impl TryFrom<u16> for Kind {
+    type Error = UnknownNumber;
 
-    /// The shape that has this number, if one has.
-    pub fn from_number(n: u16) -> Option<Shape>
-        ensures value { result ≡ shape_of n }
-        ensures exact { MatchOption result ((k : Shape) → shape_number k ≢ n) (λ k. shape_number k ≡ n) }
-    {
-        match n {
-            1 => Some(Shape::Scalar),
-            2 => Some(Shape::Vector),
-            3 => Some(Shape::Matrix),
-            4 => Some(Shape::Interval),
-            _ => None,
-        }
-    }
+    ghost try_from_gives = { Decodes kind_number kind_of };
 
-    /// Whether the two are one shape.
-    pub fn same(self, other: Shape) -> bool
-        ensures { result ≡ same_shape self other }
-    {
-        self.number() == other.number()
-    }
-}
-
-impl Size {
-    /// The number that stands for this size in a file: 65535 for an open one.
-    pub fn number(self) -> u16
-        ensures { result ≡ size_number self }
-    {
-        match self {
-            Size::Open => 65535,
-            Size::Known(n) => n,
-        }
-    }
-
-    /// The size that this number stands for.
-    pub fn from_number(n: u16) -> Size
-        ensures { result ≡ written n }
-    {
-        match n {
-            65535 => Size::Open,
-            _ => Size::Known(n),
+    fn try_from(value: u16) -> Result<Kind, UnknownNumber> {
+        match value {
+            1 => Ok(Kind::Boolean),
+            2 => Ok(Kind::Character),
+            3 => Ok(Kind::Integer),
+            _ => Err(UnknownNumber(value)),
         }
     }
 }
 
-impl Form {
-    /// The number that stands for this form in a file.
-    pub fn number(self) -> u16
-        ensures { result ≡ form_number self }
-    {
-        match self {
-            Form::First => 1,
+/// The number that stands for a shape in a file.
+impl From<Shape> for u16 {
+    ghost from_gives = { λ k n. n ≡ shape_number k };
+
+    fn from(value: Shape) -> u16 {
+        value as u16
+    }
+}
+
+impl TryFrom<u16> for Shape {
+    type Error = UnknownNumber;
+
+    ghost try_from_gives = { Decodes shape_number shape_of };
+
+    fn try_from(value: u16) -> Result<Shape, UnknownNumber> {
+        match value {
+            1 => Ok(Shape::Scalar),
+            2 => Ok(Shape::Vector),
+            3 => Ok(Shape::Matrix),
+            4 => Ok(Shape::Interval),
+            _ => Err(UnknownNumber(value)),
         }
     }
+}
 
-    /// The form that has this number, if one has.
-    pub fn from_number(n: u16) -> Option<Form>
-        ensures { MatchOption result ((k : Form) → form_number k ≢ n) (λ k. form_number k ≡ n) }
-    {
-        match n {
-            1 => Some(Form::First),
-            _ => None,
+/// The number that stands for a form in a file.
+impl From<Form> for u16 {
+    ghost from_gives = { λ k n. n ≡ form_number k };
+
+    fn from(value: Form) -> u16 {
+        value as u16
+    }
+}
+
+impl TryFrom<u16> for Form {
+    type Error = UnknownNumber;
+
+    ghost try_from_gives = { Decodes form_number form_of };
+
+    fn try_from(value: u16) -> Result<Form, UnknownNumber> {
+        match value {
+            1 => Ok(Form::First),
+            _ => Err(UnknownNumber(value)),
         }
     }
 }

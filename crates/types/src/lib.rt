@@ -2,8 +2,11 @@
 #![tactic(auto)]
 
 mod kinds;
-mod sizes;
+pub mod sizes;
 mod typing;
+mod unknown;
 
-pub use kinds::{Form, Kind, Shape, Size};
+pub use kinds::{Form, Kind, Shape};
+pub use sizes::Size;
 pub use typing::Typing;
+pub use unknown::UnknownNumber;

@@ -1,120 +1,80 @@
-//! What follows for a size from other sizes, each of which may be open.
+//! Sizes: their numbers in a file, and what follows for a size from others, each of which may be unknown.
 ghost use Rattle.std.specs.Prelude.{◌≡◌};
-ghost use Rattle.types.specs.Types.{exactly, is_known, agree, fits_in, or_else, plus, larger, capped, within, area_within};
+ghost use Rattle.types.specs.Types.{size_number, written, agree, fits_in, plus, larger, capped, within, area_within};
 
-use crate::kinds::Size;
+/// A count of rows or columns, where it is known.
+pub type Size = Option<u16>;
 
-impl Size {
-    /// Whether it is known to be n.
-    pub fn is_exactly(self, n: u16) -> bool
-        ensures { result ≡ exactly n self }
-    {
-        match self {
-            Size::Open => false,
-            Size::Known(m) => m == n,
-        }
+/// The number that stands for a size in a file: 65535 for one that is not known.
+pub fn size_number(size: Size) -> u16
+    ensures { result ≡ size_number size }
+{
+    size.unwrap_or(65535)
+}
+
+/// The size that a number in a file stands for.
+pub fn size_from(number: u16) -> Size
+    ensures { result ≡ written number }
+{
+    match number {
+        65535 => None,
+        _ => Some(number),
     }
+}
 
-    /// Whether it is known.
-    pub fn is_known(self) -> bool
-        ensures { result ≡ is_known self }
-    {
-        match self {
-            Size::Open => false,
-            Size::Known(_) => true,
-        }
+/// Whether the two may be equal, as far as they are known.
+pub fn agree(x: Size, y: Size) -> bool
+    ensures { result ≡ agree x y }
+{
+    match (x, y) {
+        (Some(m), Some(n)) => m == n,
+        _ => true,
     }
+}
 
-    /// Whether the two may be equal, as far as they are known.
-    pub fn agrees(self, other: Size) -> bool
-        ensures { result ≡ agree self other }
-    {
-        match self {
-            Size::Open => true,
-            Size::Known(m) => match other {
-                Size::Open => true,
-                Size::Known(n) => m == n,
-            },
-        }
+/// Whether the first may be at most the second, as far as they are known.
+pub fn fits_in(x: Size, y: Size) -> bool
+    ensures { result ≡ fits_in x y }
+{
+    match (x, y) {
+        (Some(m), Some(n)) => m <= n,
+        _ => true,
     }
+}
 
-    /// Whether it may be at most the other, as far as they are known.
-    pub fn fits_in(self, other: Size) -> bool
-        ensures { result ≡ fits_in self other }
-    {
-        match self {
-            Size::Open => true,
-            Size::Known(m) => match other {
-                Size::Open => true,
-                Size::Known(n) => m <= n,
-            },
-        }
+/// One after the other, or nothing where 16 bits do not hold the sum.
+pub fn plus(x: Size, y: Size) -> Option<Size>
+    ensures { result ≡ capped (plus x y) }
+{
+    match (x, y) {
+        (Some(m), Some(n)) => m.checked_add(n).map(Some),
+        _ => Some(None),
     }
+}
 
-    /// This size, or the other where this one is not known.
-    pub fn or_else(self, other: Size) -> Size
-        ensures { result ≡ or_else self other }
-    {
-        match self {
-            Size::Open => other,
-            Size::Known(m) => Size::Known(m),
-        }
+/// The larger of the two, where both are known.
+pub fn larger(x: Size, y: Size) -> Size
+    ensures { result ≡ larger x y }
+{
+    match (x, y) {
+        (Some(m), Some(n)) => Some(m.max(n)),
+        _ => None,
     }
+}
 
-    /// One after the other, or nothing where 16 bits do not hold the sum.
-    pub fn plus(self, other: Size) -> Option<Size>
-        ensures { result ≡ capped (plus self other) }
-    {
-        match self {
-            Size::Open => Some(Size::Open),
-            Size::Known(m) => match other {
-                Size::Open => Some(Size::Open),
-                Size::Known(n) => if m <= 65535 - n {
-                    Some(Size::Known(m + n))
-                } else {
-                    None
-                },
-            },
-        }
-    }
-
-    /// The larger of the two, where both are known.
-    pub fn larger(self, other: Size) -> Size
-        ensures { result ≡ larger self other }
-    {
-        match self {
-            Size::Open => Size::Open,
-            Size::Known(m) => match other {
-                Size::Open => Size::Open,
-                Size::Known(n) => if m < n {
-                    Size::Known(n)
-                } else {
-                    Size::Known(m)
-                },
-            },
-        }
-    }
-
-    /// Whether it is not known to be beyond the width.
-    pub fn is_within(self, width: u16) -> bool
-        ensures { result ≡ within width self }
-    {
-        match self {
-            Size::Open => true,
-            Size::Known(n) => n <= width,
-        }
-    }
+/// Whether it is not known to be beyond the width.
+pub fn is_within(size: Size, width: u16) -> bool
+    ensures { result ≡ within width size }
+{
+    size.is_none_or(|n| n <= width)
 }
 
 /// Whether a value of r rows and s columns is not known to have more elements than the width.
 pub fn is_area_within(width: u16, r: Size, s: Size) -> bool
     ensures { result ≡ area_within width r s }
 {
-    match r {
-        Size::Open => true,
-        Size::Known(m) => match s {
-            Size::Open => true,
-            Size::Known(n) => u32::from(m) * u32::from(n) <= u32::from(width),
-        },
+    match (r, s) {
+        (Some(m), Some(n)) => u32::from(m) * u32::from(n) <= u32::from(width),
+        _ => true,
     }
 }

@@ -3,11 +3,11 @@ ghost use Rattle.std.specs.Prelude.{◌≡◌};
 ghost use Rattle.types.specs.Types.{room};
 ghost use Rattle.types.specs.Typings.{scalar as scalar_of, vector as vector_of, matrix as matrix_of, interval as interval_of, is, of, flat, alone, index as indexes, pairs, type_fits, lawful, span, matches, matches_spread, spread};
 
-use crate::kinds::{Kind, Shape, Size};
-use crate::sizes::is_area_within;
+use crate::kinds::{Kind, Shape};
+use crate::sizes::{Size, agree, is_area_within, is_within};
 
 /// A kind, a shape and two sizes: `r` rows of `s` columns.
-#[derive(Clone, Copy, Debug, PartialEq)]
+#[derive(Clone, Copy, Debug, PartialEq, Eq, Hash)]
 pub struct Typing {
     pub kind: Kind,
     pub shape: Shape,
@@ -23,8 +23,8 @@ impl Typing {
         Typing {
             kind,
             shape: Shape::Scalar,
-            r: Size::Known(1),
-            s: Size::Known(1),
+            r: Some(1),
+            s: Some(1),
         }
     }
 
@@ -35,7 +35,7 @@ impl Typing {
         Typing {
             kind,
             shape: Shape::Vector,
-            r: Size::Known(1),
+            r: Some(1),
             s,
         }
     }
@@ -59,8 +59,8 @@ impl Typing {
         Typing {
             kind: Kind::Integer,
             shape: Shape::Interval,
-            r: Size::Known(1),
-            s: Size::Known(2),
+            r: Some(1),
+            s: Some(2),
         }
     }
 
@@ -68,14 +68,14 @@ impl Typing {
     pub fn is(self, shape: Shape) -> bool
         ensures { result ≡ is shape self }
     {
-        shape.same(self.shape)
+        shape == self.shape
     }
 
     /// Whether it is of this kind.
     pub fn is_of(self, kind: Kind) -> bool
         ensures { result ≡ of kind self }
     {
-        kind.same(self.kind)
+        kind == self.kind
     }
 
     /// Whether it is no interval.
@@ -105,7 +105,7 @@ impl Typing {
     {
         self.is_flat()
             && other.is_flat()
-            && (self.is(Shape::Scalar) || other.is(Shape::Scalar) || self.shape.same(other.shape))
+            && (self.is(Shape::Scalar) || other.is(Shape::Scalar) || self.shape == other.shape)
     }
 
     /// Whether the sizes that its shape fixes are so, and an interval is of integers.
@@ -113,13 +113,12 @@ impl Typing {
         ensures { result ≡ type_fits self.kind self.shape self.r self.s }
     {
         match self.shape {
-            Shape::Scalar => self.r.is_exactly(1) && self.s.is_exactly(1),
-            Shape::Vector => self.r.is_exactly(1),
+            Shape::Scalar => self.r == Some(1) && self.s == Some(1),
+            Shape::Vector => self.r == Some(1),
             Shape::Matrix => true,
-            Shape::Interval => match self.kind {
-                Kind::Boolean | Kind::Character => false,
-                Kind::Integer => self.r.is_exactly(1) && self.s.is_exactly(2),
-            },
+            Shape::Interval => {
+                self.is_of(Kind::Integer) && self.r == Some(1) && self.s == Some(2)
+            }
         }
     }
 
@@ -127,7 +126,9 @@ impl Typing {
     pub fn has_room(self, width: u16) -> bool
         ensures { result ≡ room width self.r self.s }
     {
-        self.r.is_within(width) && self.s.is_within(width) && is_area_within(width, self.r, self.s)
+        is_within(self.r, width)
+            && is_within(self.s, width)
+            && is_area_within(width, self.r, self.s)
     }
 
     /// Whether a sheet of this width may write this type.
@@ -142,7 +143,7 @@ impl Typing {
         ensures { result ≡ span self }
     {
         if self.is(Shape::Interval) {
-            Size::Open
+            None
         } else {
             self.s
         }
@@ -152,7 +153,7 @@ impl Typing {
     pub fn matches(self, other: Typing) -> bool
         ensures { result ≡ matches self other }
     {
-        self.r.agrees(other.r) && self.s.agrees(other.s)
+        agree(self.r, other.r) && agree(self.s, other.s)
     }
 
     /// The same, where a scalar is spread over the other.
@@ -167,26 +168,16 @@ impl Typing {
         ensures { result ≡ spread kind self other }
     {
         if self.is(Shape::Scalar) {
-            return Typing {
-                kind,
-                shape: other.shape,
-                r: other.r,
-                s: other.s,
-            };
-        }
-        if other.is(Shape::Scalar) {
-            return Typing {
+            Typing { kind, ..other }
+        } else if other.is(Shape::Scalar) {
+            Typing { kind, ..self }
+        } else {
+            Typing {
                 kind,
                 shape: self.shape,
-                r: self.r,
-                s: self.s,
-            };
-        }
-        Typing {
-            kind,
-            shape: self.shape,
-            r: self.r.or_else(other.r),
-            s: self.s.or_else(other.s),
+                r: self.r.or(other.r),
+                s: self.s.or(other.s),
+            }
         }
     }
 }
