@@ -51,7 +51,7 @@ make_before ls p cs f (make.Resize a r s) h = refl
 make_before ls p cs f make.State h = refl
 
 change_before : (ls : List Line) (p : ℕ) (cs : List ℕ) (s : Changes) → change_scoped ls p cs s ≡ true → all (λ v. ltb v p) (change_names s) ≡ true
-change_before ls p cs (change.Declare k x r s v) h = refl
+change_before ls p cs (change.Declare t v) h = refl
 change_before ls p cs (change.Assign v a) h = before ls p cs v h
 change_before ls p cs (change.Store v b c) h = before ls p cs v h
 change_before ls p cs (change.StoreTwo v b c d) h = before ls p cs v h

@@ -31,9 +31,9 @@ returns-in-Err c =
     let d = c.args.draft in
     let lines = vec_items c.check_rows.new.lines in
     let told = c.in-Err.ensures in
-    let fault = of_draft (λ w t rows. Faulty w t rows lines c.in-Err.refusal c.in-Err.row) d c.head-head.result c.rows-2.result.now c.head-head.ensures c.rows-2.ensures told.verdict in
+    let fault = of_draft (λ w t rows. Faulty w t rows lines c.in-Err.broken.refusal c.in-Err.broken.row) d c.head-head.result c.rows-2.result.now c.head-head.ensures c.rows-2.ensures told.verdict in
     let count = ap length c.rows.ensures in
     record {
       verdict = record { same_draft = refl; same_space = told.capacity ∙ c.clear.ensures.capacity; reason = broken (omega arith) fault };
-      exact = λ more _ other. not_both d.head.width d.head.result (rows_of d) more lines c.in-Err.refusal c.in-Err.row other fault;
+      exact = λ more _ other. not_both d.head.width d.head.result (rows_of d) more lines c.in-Err.broken.refusal c.in-Err.broken.row other fault;
     }
