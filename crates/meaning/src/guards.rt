@@ -1,5 +1,5 @@
 //! The tests of a row, and the fault of the first that fails.
-ghost use Rattle.std.specs.Prelude.{◌≡◌, ℕ, ◌*◌, true, IfOk};
+ghost use Rattle.std.specs.Prelude.{◌≡◌, ℕ, ◌*◌, true, false, IfOk, MatchResult};
 ghost use Rattle.meaning.specs.Plans.{fits};
 ghost use Rattle.meaning.specs.States.{layout_at};
 ghost use Rattle.meaning.specs.Values.{lawful, within};
@@ -16,7 +16,7 @@ impl Place {
     pub fn start_of(self, i: u16) -> usize
         ensures { result ≡ i * self.width }
     {
-        i as usize * self.width as usize
+        usize::from(i) * usize::from(self.width)
     }
 
     /// The fault of this row, at an element.
@@ -36,18 +36,23 @@ impl Place {
         ensures is { result ≡ found self (layout_at self.width slips.now i) }
         ensures lawful { IfOk result (λ f. lawful self.width f ≡ true) }
     {
-        match layout_at(slips, i as usize, self.width) {
-            Some(layout) => Ok(layout),
-            None => Err(self.fault(Cause::NoRule, 0)),
-        }
+        layout_at(slips, usize::from(i), self.width).ok_or(self.fault(Cause::NoRule, 0))
     }
 
     fn is_fitting(self, counted: Option<usize>, layout: Layout) -> bool
         ensures { result ≡ fits self.width counted layout }
     {
-        match counted {
-            None => layout.is_within(self.width),
-            Some(n) => n <= self.width as usize && layout.is_within(self.width),
+        counted.is_none_or(|n| n <= usize::from(self.width)) && layout.is_within(self.width)
+    }
+
+    /// The fault of this row at no element, where the fact does not hold.
+    fn need(self, holds: bool, cause: Cause) -> Result<(), Fault>
+        ensures { MatchResult result (λ _. holds ≡ true) (λ e. (holds ≡ false) × (e ≡ fault_at self cause 0)) }
+    {
+        if holds {
+            Ok(())
+        } else {
+            Err(self.fault(cause, 0))
         }
     }
 
@@ -64,18 +69,10 @@ impl Place {
         ensures is { result ≡ guards self ruled ordered counted layout agree }
         ensures within { IfOk result (λ f. within self.width f.r f.s ≡ true) }
     {
-        if !ruled {
-            return Err(self.fault(Cause::NoRule, 0));
-        }
-        if !ordered {
-            return Err(self.fault(Cause::Disordered, 0));
-        }
-        if !self.is_fitting(counted, layout) {
-            return Err(self.fault(Cause::Beyond, 0));
-        }
-        if !agree {
-            return Err(self.fault(Cause::SizesDiffer, 0));
-        }
+        self.need(ruled, Cause::NoRule)?;
+        self.need(ordered, Cause::Disordered)?;
+        self.need(self.is_fitting(counted, layout), Cause::Beyond)?;
+        self.need(agree, Cause::SizesDiffer)?;
         Ok(layout)
     }
 }
