@@ -1,28 +1,26 @@
 -- A lawful head has numbers of 16 bits, and no other has the same.
-use Rattle.std.proofs.Common.{◌≡◌, ℕ, ◌<◌, ◌≤◌, true, refl, ap, arith}
+use Rattle.std.proofs.Common.{◌≡◌, ℕ, ◌<◌, ◌≤◌, true, Some, None, refl, ap, arith}
 use mathlib.Core.HLevel.{is_prop→PathP}
 use denote.Struct.Props.{props}
 use Rattle.std.proofs.lemmas.Bool.{and_parts, leb-true}
 use Rattle.sheet.specs.Heads.{numbers_of}
-use Rattle.types.specs.Types.{within, area_within, kind_number, shape_number, size_number, form_number}
+use Rattle.types.specs.Types.{Size, within, area_within, kind_number, shape_number, size_number, form_number}
 use Rattle.types.specs.Typings.{lawful, type_fits}
 use Rattle.sheet.specs.declared.head.Head.{Head}
 use Rattle.types.specs.declared.kinds.Form.{Form}
 use Rattle.types.specs.declared.kinds.Kind.{Kind}
 use Rattle.types.specs.declared.kinds.Shape.{Shape}
-use Rattle.types.specs.declared.kinds.Size.{Size}
-use Rattle.types.specs.declared.kinds.Size.TheVariants.{Open, Known}
 use Rattle.types.specs.declared.typing.Typing.{Typing}
 use Rattle.sheet.proofs.Back.{Small}
 
 -- a size of a lawful head
 abbrev Bounded : Size → Type 0
-Bounded Open = Unit {0}
-Bounded (Known n) = n ≤ 1024
+Bounded None = Unit {0}
+Bounded (Some n) = n ≤ 1024
 
 from_within : (w : ℕ) (r : Size) → w ≤ 1024 → within w r ≡ true → Bounded r
-from_within w Open h e = tt
-from_within w (Known n) h e = omega (arith, leb-true n w e)
+from_within w None h e = tt
+from_within w (Some n) h e = omega (arith, leb-true n w e)
 
 bounded : (w : ℕ) (t : Typing) → w ≤ 1024 → lawful w t ≡ true → Bounded t.r × Bounded t.s
 bounded w t h e =
@@ -32,8 +30,8 @@ bounded w t h e =
     (from_within w t.r h q.0, from_within w t.s h z.0)
 
 size_small : (r : Size) → Bounded r → size_number r < 65536
-size_small Open h = omega arith
-size_small (Known n) h = omega arith
+size_small None h = omega arith
+size_small (Some n) h = omega arith
 
 kind_small : (k : Kind) → kind_number k < 65536
 kind_small k = grind arith
@@ -54,10 +52,10 @@ form_same : (a b : Form) → form_number a ≡ form_number b → a ≡ b
 form_same a b e = grind arith
 
 size_same : (a b : Size) → Bounded a → Bounded b → size_number a ≡ size_number b → a ≡ b
-size_same Open Open p q e = refl
-size_same Open (Known n) p q e = absurd (omega arith)
-size_same (Known m) Open p q e = absurd (omega arith)
-size_same (Known m) (Known n) p q e = ap Known e
+size_same None None p q e = refl
+size_same None (Some n) p q e = absurd (omega arith)
+size_same (Some m) None p q e = absurd (omega arith)
+size_same (Some m) (Some n) p q e = ap Some e
 
 sizes : (h : Head) → Bounded h.result.r × Bounded h.result.s
 sizes h = bounded h.width h.result h.high h.lawful

@@ -1,7 +1,8 @@
 -- Bytes that are placed one after another.
-use Rattle.std.proofs.Common.{◌≡◌, ℕ, ◌+◌, ◌-◌, ◌*◌, ◌<◌, ◌≤◌, List, [], ◌∷◌, ◌++◌, length, get_or, take, drop, sym, refl, ap, ◌∙◌, append_assoc, add-zero, add_assoc, arith, length-append, take-append-drop, take-add}
+use Rattle.std.proofs.Common.{◌≡◌, ℕ, zero, suc, ◌+◌, ◌-◌, ◌*◌, ◌<◌, ◌≤◌, List, [], ◌∷◌, ◌++◌, length, get_or, take, drop, sym, refl, ap, ◌∙◌, append_assoc, add-zero, add_assoc, arith, length-append, length-drop, take-append-drop, map}
 use borrow.Rule.Slice.PartMut.{put_mid}
 use Rattle.std.specs.List.{flat_map}
+use Rattle.std.specs.Simd.{first_chunks}
 use Rattle.std.proofs.lemmas.List.{drop-drop, take_more, flat_map_more, take_at, drop_at, length-take-le}
 use Rattle.sheet.specs.Bytes.{placed}
 use Rattle.sheet.specs.Rows.{row_bytes}
@@ -40,9 +41,13 @@ pub put_more : (out was next : List ℕ) (start i : ℕ) (rows : List Row) (row 
 put_more out was next start i rows row bytes h is l inv e n =
     n ∙ (λ j. placed (inv j) (start + 20 * i) (e j)) ∙ placed_more out start (start + 20 * i) (flat_map row_bytes (take i rows)) (row_bytes row) (omega (arith, joined_length (take i rows), length-take-le i rows (omega arith))) l ∙ ap (placed out start) (joined_step rows i row h is)
 
--- a turn of `read_rows`
-pub read_more : (rows next : List Row) (row : Row) (body : List ℕ) (i : ℕ) → flat_map row_bytes rows ≡ take (20 * i) body → row_bytes row ≡ take (20 * i + 20 - 20 * i) (drop (20 * i) body) → next ≡ rows ++ row ∷ [] → flat_map row_bytes next ≡ take (20 * (i + 1)) body
-read_more rows next row body i inv e n =
-    let k : 20 * i + 20 - 20 * i ≡ 20 = omega arith in
-    let m : 20 * i + 20 ≡ 20 * (i + 1) = omega arith in
-    ap (flat_map row_bytes) n ∙ sym (flat_map_more row_bytes [] rows row) ∙ (λ j. inv j ++ (e ∙ ap (λ z. take z (drop (20 * i) body)) k) j) ∙ sym (take-add (20 * i) 20 body) ∙ ap (λ z. take z body) m
+-- rows whose bytes are the runs of twenty of a body are the body's rows
+pub joined_parts : (rows : List Row) (k : ℕ) (body : List ℕ) → length body ≡ 20 * k → map row_bytes rows ≡ first_chunks 20 k body → flat_map row_bytes rows ≡ body
+joined_parts [] zero [] l e = refl
+joined_parts [] zero (b ∷ bs) l e = absurd (omega arith)
+joined_parts [] (suc k) body l e = absurd (cc)
+joined_parts (x ∷ xs) zero body l e = absurd (cc)
+joined_parts (x ∷ xs) (suc k) body l e =
+    let first : row_bytes x ≡ take 20 body = cc in
+    let rest : flat_map row_bytes xs ≡ drop 20 body = joined_parts xs k (drop 20 body) (omega (arith, length-drop 20 body)) (cc) in
+    (λ i. first i ++ rest i) ∙ take-append-drop 20 body

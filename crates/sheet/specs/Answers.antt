@@ -1,15 +1,18 @@
 -- What load, make and save answer, and when each of them refuses.
 use Rattle.std.specs.Prelude.{◌≡◌, ℕ, ◌<◌, ◌≤◌, List, ◌++◌, length, drop}
-use Rattle.sheet.specs.Files.{encode, last_of, Laid, Marked, Typed, TypedBy}
+use Rattle.sheet.specs.Files.{encode, last_of, tail_of, Laid, Marked, Typed, TypedBy}
 use Rattle.sheet.specs.Heads.{numbers_of}
 use Rattle.sheet.specs.Rooms.{rows_of, space, space_of}
+use Rattle.sheet.specs.Trailers.{trailer_bytes}
 use Rattle.sheet.specs.declared.draft.Draft.{Draft}
+use Rattle.sheet.specs.declared.head.Head.{Head}
 use Rattle.sheet.specs.declared.head.HeadNumbers.{HeadNumbers}
 use Rattle.sheet.specs.declared.refusal.Refusal.{Refusal}
 use Rattle.sheet.specs.declared.refusal.Refusal.TheVariants.{NotASheet, BadLayout, BadHead, NoRoom}
 use Rattle.sheet.specs.declared.refusal.Returned.{Returned}
 use Rattle.sheet.specs.declared.room.Room.{Room}
 use Rattle.sheet.specs.declared.row.Row.{Row}
+use Rattle.sheet.specs.declared.trailer.Trailer.{Trailer}
 
 -- a call gives back the very room that it was brought, and this holds of its refusal
 pub record GivenBack (m : Room) (e : Returned) (Why : Refusal → Type 0) : Type 0 where
@@ -21,6 +24,15 @@ pub record Loaded (file : List ℕ) (m : Room) (note : List ℕ) (d : Draft) : T
   pub bytes : file ≡ encode note d
   pub short : length note ≤ 4096
   pub space : space_of d ≡ space m
+
+-- the trailer at the end of a file and the head that it writes, where the file may be loaded into a room for n rows
+pub record Found (file : List ℕ) (n : ℕ) (t : Trailer) (h : Head) : Type 0 where
+  pub marked : Marked file
+  pub laid : Laid (length file) t
+  pub last : t ≡ last_of file
+  pub bytes : trailer_bytes t ≡ tail_of file
+  pub head : numbers_of h ≡ t.head
+  pub room : t.count ≤ n
 
 -- when a file is not loaded into a room for n rows: the cases exclude each other
 abbrev pub Unloaded : List ℕ → ℕ → Refusal → Type 0

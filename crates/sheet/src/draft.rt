@@ -5,7 +5,7 @@ use crate::head::Head;
 use crate::row::Row;
 
 /// A lawful head and 1 to 512 rows, of any content: what a sheet is before its rows are checked.
-#[derive(Drop)]
+#[derive(Debug, Drop)]
 pub struct Draft {
     pub(crate) head: Head,
     pub(crate) rows: Vec<Row>,

@@ -5,7 +5,7 @@ ghost use Rattle.types.specs.Typings.{lawful as lawful_type};
 use types::{Form, Typing};
 
 /// A lawful head. No value of the sheet has more elements than `width`, which is 2 to 1,024.
-#[derive(Clone, Copy, Debug, PartialEq)]
+#[derive(Clone, Copy, Debug, PartialEq, Eq, Hash)]
 pub struct Head {
     pub width: u16,
     pub result: Typing,
@@ -16,7 +16,7 @@ pub struct Head {
 }
 
 /// The numbers that stand for a head in a file, lawful or not.
-#[derive(Clone, Copy, Debug, PartialEq)]
+#[derive(Clone, Copy, Debug, PartialEq, Eq, Hash)]
 pub struct HeadNumbers {
     pub width: u16,
     pub kind: u16,
@@ -25,3 +25,7 @@ pub struct HeadNumbers {
     pub s: u16,
     pub form: u16,
 }
+
+/// What numbers that are those of no lawful head are refused with.
+#[derive(Clone, Copy, Debug, PartialEq, Eq, Hash)]
+pub struct UnlawfulHead;

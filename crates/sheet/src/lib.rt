@@ -22,11 +22,11 @@ mod trips;
 mod writing;
 
 pub use draft::Draft;
-pub use head::{Head, HeadNumbers};
+pub use head::{Head, HeadNumbers, UnlawfulHead};
 pub use making::make;
 pub use reading::{MAX_NOTE, MAX_ROWS, load};
 pub use refusal::{Refusal, Returned};
 pub use room::Room;
 pub use row::Row;
 pub use trips::{file_is_unique, reload, resave};
-pub use types::{Form, Kind, Shape, Size, Typing};
+pub use types::{Form, Kind, Shape, Size, Typing, UnknownNumber};

@@ -1,6 +1,6 @@
 //! Reading a file.
 ghost use Rattle.std.specs.Prelude.{◌≡◌, ℕ, ◌<◌, ◌≤◌, List, length, Decides, MatchResult};
-ghost use Rattle.sheet.specs.Answers.{GivenBack, Loaded, Unloaded};
+ghost use Rattle.sheet.specs.Answers.{Found, GivenBack, Loaded, Unloaded};
 ghost use Rattle.sheet.specs.Files.{encode, last_of, tail_of, Laid, Marked, Same};
 ghost use Rattle.sheet.specs.Heads.{numbers_of};
 ghost use Rattle.sheet.specs.Rooms.{rows_of, space as space_in};
@@ -11,7 +11,8 @@ use crate::draft::Draft;
 use crate::head::Head;
 use crate::refusal::{Refusal, Returned};
 use crate::room::Room;
-use crate::rows::{ROW, read_rows};
+use crate::row_codec::ROW;
+use crate::rows::read_rows;
 use crate::trailer::{MARK, TRAILER, Trailer, read_trailer};
 
 /// The most bytes of a note.
@@ -23,10 +24,8 @@ pub const MAX_ROWS: usize = 512;
 fn find_trailer(file: &[u8]) -> Result<Trailer, Refusal>
     ensures { MatchResult result (λ t. Marked file.now × (t ≡ last_of file.now) × (trailer_bytes t ≡ tail_of file.now)) (λ e. (e ≡ NotASheet) × (Marked file.now → ⊥)) }
 {
-    if file.len() < TRAILER {
-        return Err(Refusal::NotASheet);
-    }
-    let trailer = read_trailer(&file[file.len() - TRAILER..]);
+    let tail = file.last_chunk().ok_or(Refusal::NotASheet)?;
+    let trailer = read_trailer(tail);
     if trailer.mark != MARK {
         return Err(Refusal::NotASheet);
     }
@@ -43,15 +42,13 @@ fn is_laid(len: usize, t: &Trailer) -> bool
 
 /// The trailer and the head of a file that is lawful.
 fn examine(file: &[u8], space: usize) -> Result<(Trailer, Head), Refusal>
-    ensures { MatchResult result (λ p. Marked file.now × Laid (length file.now) p.0 × (p.0 ≡ last_of file.now) × (trailer_bytes p.0 ≡ tail_of file.now) × (numbers_of p.1 ≡ p.0.head) × (p.0.count ≤ space)) (λ e. Unloaded file.now space e) }
+    ensures { MatchResult result (λ p. Found file.now space p.0 p.1) (Unloaded file.now space) }
 {
     let trailer = find_trailer(file)?;
     if !is_laid(file.len(), &trailer) {
         return Err(Refusal::BadLayout);
     }
-    let Some(head) = Head::from_numbers(trailer.head) else {
-        return Err(Refusal::BadHead);
-    };
+    let head = Head::try_from(trailer.head)?;
     if space < trailer.count as usize {
         return Err(Refusal::NoRoom);
     }
@@ -61,15 +58,15 @@ fn examine(file: &[u8], space: usize) -> Result<(Trailer, Head), Refusal>
 fn parse<'a>(file: &'a [u8], room: Room) -> Result<(Draft, &'a [u8]), Returned>
     ensures { MatchResult result (λ p. Loaded file.now room p.1.now p.0) (λ e. GivenBack room e (Unloaded file.now (space_in room))) }
 {
-    let found = match examine(file, room.space()) {
-        Ok(found) => found,
-        Err(refusal) => return Err(Returned { refusal, room }),
-    };
-    let (trailer, head) = found;
-    let start = trailer.offset as usize;
-    let count = trailer.count as usize;
-    let rows = read_rows(room, &file[start..start + ROW * count], count);
-    Ok((Draft { head, rows }, &file[0..start]))
+    match examine(file, room.space()) {
+        Ok((trailer, head)) => {
+            let start = trailer.offset as usize;
+            let end = start + ROW * trailer.count as usize;
+            let rows = read_rows(room, &file[start..end]);
+            Ok((Draft { head, rows }, &file[..start]))
+        }
+        Err(refusal) => Err(Returned { refusal, room }),
+    }
 }
 
 /// The sheet in a file, and its note, which is a part of the file.

@@ -1,41 +1,47 @@
 //! Why a sheet is not loaded, made or saved.
 ghost use Rattle.std.specs.Prelude.{◌≡◌};
 ghost use Rattle.sheet.specs.Refusals.{refusal_number};
+ghost use Rattle.sheet.specs.declared.refusal.Refusal.TheVariants.{BadHead};
 
+use crate::head::UnlawfulHead;
 use crate::room::Room;
+use std::error::Error;
 use std::fmt;
 
 /// The refusals of load, make and save. Where several would do, the one with the smallest number is told.
-#[derive(Clone, Copy, Debug, PartialEq)]
+#[derive(Clone, Copy, Debug, PartialEq, Eq, Hash)]
 pub enum Refusal {
     /// Under twenty bytes, or no mark at the end.
-    NotASheet,
+    NotASheet = 1,
     /// The note, the rows and the trailer do not make up the file, or there are too many of them.
-    BadLayout,
+    BadLayout = 2,
     /// No lawful head has these numbers.
-    BadHead,
+    BadHead = 3,
     /// The room or the buffer is too short.
-    NoRoom,
+    NoRoom = 4,
 }
 
 /// A refusal of load or make, with the room that the call was brought.
-#[derive(Drop)]
+#[derive(Debug, Drop)]
 pub struct Returned {
     pub refusal: Refusal,
     pub room: Room,
 }
 
-impl Refusal {
-    /// The number of this refusal.
-    pub fn number(self) -> u16
-        ensures { result ≡ refusal_number self }
-    {
-        match self {
-            Refusal::NotASheet => 1,
-            Refusal::BadLayout => 2,
-            Refusal::BadHead => 3,
-            Refusal::NoRoom => 4,
-        }
+/// The number that a host is told.
+impl From<Refusal> for u16 {
+    ghost from_gives = { λ x n. n ≡ refusal_number x };
+
+    fn from(value: Refusal) -> u16 {
+        value as u16
+    }
+}
+
+impl From<UnlawfulHead> for Refusal {
+    ghost from_gives = { λ _ x. x ≡ BadHead };
+
+    fn from(_value: UnlawfulHead) -> Refusal {
+        Refusal::BadHead
     }
 }
 
@@ -54,13 +60,18 @@ impl fmt::Display for Refusal {
                     "not laid out as a note of at most 4096 bytes, 1 to 512 rows and the trailer"
                 )
             }
-            Refusal::BadHead => {
-                write!(
-                    f,
-                    "no lawful head: the form is 1, the width 2 to 1024, and the result's type fits the width"
-                )
-            }
+            Refusal::BadHead => { write!(f, "{UnlawfulHead}") }
             Refusal::NoRoom => write!(f, "the memory brought is too short"),
         }
     }
 }
+
+impl fmt::Display for Returned {
+    fn fmt<W: fmt::Write>(&self, f: &mut fmt::Formatter<W>) -> fmt::Result {
+        write!(f, "{}", self.refusal)
+    }
+}
+
+impl Error for Refusal {}
+
+impl Error for Returned {}

@@ -4,7 +4,7 @@ ghost use Rattle.std.specs.Int.Signed.{mag};
 
 /// One row: what it does (`code`), the line of the source that it came from, and its fields, whose
 /// meaning is the code's. The ghost fields carry each number's range to a reader of a list of rows.
-#[derive(Clone, Copy, Debug, PartialEq)]
+#[derive(Clone, Copy, Debug, PartialEq, Eq, Hash)]
 pub struct Row {
     pub code: u16,
     pub line: u16,

@@ -1,12 +1,14 @@
 //! The twenty bytes of a row.
-ghost use Rattle.std.specs.Prelude.{◌≡◌, length};
+ghost use Rattle.std.specs.Prelude.{◌≡◌};
 ghost use Rattle.sheet.specs.Rows.{row_bytes};
 
 use crate::bytes::{read_i32, read_u16};
 use crate::row::Row;
 
-pub fn read_row(part: &[u8]) -> Row
-    requires { length part.now ≡ 20 }
+/// The bytes of a row.
+pub const ROW: usize = 20;
+
+pub fn read_row(part: &[u8; ROW]) -> Row
     ensures { row_bytes result ≡ part.now }
 {
     Row {
@@ -22,7 +24,7 @@ pub fn read_row(part: &[u8]) -> Row
     }
 }
 
-pub fn row_bytes(row: &Row) -> [u8; 20]
+pub fn row_bytes(row: &Row) -> [u8; ROW]
     ensures { result ≡ row_bytes row.now }
 {
     let [code0, code1] = row.code.to_le_bytes();

@@ -1,5 +1,5 @@
 //! The last twenty bytes of a file.
-ghost use Rattle.std.specs.Prelude.{◌≡◌, length};
+ghost use Rattle.std.specs.Prelude.{◌≡◌};
 ghost use Rattle.sheet.specs.Trailers.{trailer_bytes, trailer_of};
 
 use crate::bytes::{read_u16, read_u32};
@@ -11,7 +11,7 @@ pub const MARK: u16 = 0x5047;
 /// The bytes of a trailer.
 pub const TRAILER: usize = 20;
 
-#[derive(Clone, Copy)]
+#[derive(Clone, Copy, Debug, PartialEq, Eq)]
 pub struct Trailer {
     pub offset: u32,
     pub count: u16,
@@ -19,8 +19,7 @@ pub struct Trailer {
     pub mark: u16,
 }
 
-pub fn read_trailer(tail: &[u8]) -> Trailer
-    requires { length tail.now ≡ 20 }
+pub fn read_trailer(tail: &[u8; TRAILER]) -> Trailer
     ensures value { result ≡ trailer_of tail.now }
     ensures bytes { trailer_bytes result ≡ tail.now }
 {
@@ -40,7 +39,7 @@ pub fn read_trailer(tail: &[u8]) -> Trailer
     }
 }
 
-pub fn trailer_bytes(t: &Trailer) -> [u8; 20]
+pub fn trailer_bytes(t: &Trailer) -> [u8; TRAILER]
     ensures { result ≡ trailer_bytes t.now }
 {
     let [offset0, offset1, offset2, offset3] = t.offset.to_le_bytes();

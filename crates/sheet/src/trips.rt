@@ -40,8 +40,6 @@ pub fn reload<'a>(
 }
 
 /// No two sheets, and no two notes, have one file.
-pub fn file_is_unique() -> u8
+pub fn file_is_unique()
     ensures { Unique }
-{
-    0
-}
+{}

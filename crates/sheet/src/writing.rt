@@ -3,9 +3,11 @@ ghost use Rattle.std.specs.Prelude.{◌≡◌, length, MatchResult};
 ghost use Rattle.sheet.specs.Answers.{Kept, Saved, Unsaved};
 
 use crate::draft::Draft;
+use crate::head::HeadNumbers;
 use crate::reading::MAX_NOTE;
 use crate::refusal::Refusal;
-use crate::rows::{ROW, put, put_rows};
+use crate::row_codec::ROW;
+use crate::rows::{put, put_rows};
 use crate::trailer::{MARK, TRAILER, Trailer, trailer_bytes};
 
 impl Draft {
@@ -26,7 +28,7 @@ impl Draft {
         let trailer = Trailer {
             offset: start as u32,
             count: count as u16,
-            head: self.head.numbers(),
+            head: HeadNumbers::from(self.head),
             mark: MARK,
         };
         put(out, 0, note);

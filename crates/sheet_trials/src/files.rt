@@ -33,28 +33,27 @@ pub const LAWFUL: Parts = Parts {
     mark: 0x5047,
 };
 
-fn push_u16(file: &mut Vec<u8>, n: u16) -> Result<(), AllocError> {
-    file.extend_from_slice(&n.to_le_bytes())
-}
-
 /// The bytes of the parts.
 pub(crate) fn file_of(heap: Global, parts: Parts) -> Result<Vec<u8>, AllocError> {
-    let mut file = Vec::new(heap);
-    for _ in 0..parts.note {
-        file.push(b'n')?;
-    }
+    let mut file = vec![in heap; b'n'; parts.note]?;
     for _ in 0..parts.rows {
-        file.extend_from_slice(&[7u8; 20])?;
+        file.extend_from_slice(&[7; 20])?;
     }
     file.extend_from_slice(&parts.offset.to_le_bytes())?;
-    push_u16(&mut file, parts.count)?;
-    push_u16(&mut file, parts.head.width)?;
-    push_u16(&mut file, parts.head.kind)?;
-    push_u16(&mut file, parts.head.shape)?;
-    push_u16(&mut file, parts.head.r)?;
-    push_u16(&mut file, parts.head.s)?;
-    push_u16(&mut file, parts.head.form)?;
-    push_u16(&mut file, parts.mark)?;
+    let head = parts.head;
+    let numbers = [
+        parts.count,
+        head.width,
+        head.kind,
+        head.shape,
+        head.r,
+        head.s,
+        head.form,
+        parts.mark,
+    ];
+    for n in numbers {
+        file.extend_from_slice(&n.to_le_bytes())?;
+    }
     Ok(file)
 }
 
@@ -75,9 +74,5 @@ pub(crate) fn row(n: i32) -> Row {
 
 /// So many rows.
 pub(crate) fn rows(heap: Global, count: usize) -> Result<Vec<Row>, AllocError> {
-    let mut rows = Vec::new(heap);
-    for _ in 0..count {
-        rows.push(row(-1))?;
-    }
-    Ok(rows)
+    vec![in heap; row(-1); count]
 }

@@ -11,7 +11,7 @@ fn show(rt: &HostRuntime, name: &str, file: &[u8], space: usize) -> anyhow::Resu
             println!(rt; "load {name}: {rows} rows, note of {bytes}")?;
         }
         Err(refused) => {
-            let number = refused.refusal.number();
+            let number = u16::from(refused.refusal);
             println!(rt; "load {name}: refused {number}")?;
         }
     }

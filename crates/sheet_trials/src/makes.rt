@@ -7,7 +7,7 @@ fn number(rt: &HostRuntime, head: HeadNumbers, count: usize, space: usize) -> an
     let room = Room::new(rt.alloc(), space)?;
     match make(head, rows.as_slice(), room) {
         Ok(_) => Ok(0),
-        Err(refused) => Ok(refused.refusal.number()),
+        Err(refused) => Ok(u16::from(refused.refusal)),
     }
 }
 

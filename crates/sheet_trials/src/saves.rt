@@ -1,11 +1,10 @@
 //! Saving sheets, and loading them again.
 use crate::files::{HEAD, row};
-use anyhow::anyhow;
-use sheet::{Draft, MAX_ROWS, Refusal, Returned, Room, load, make};
+use sheet::{Draft, MAX_ROWS, Refusal, Room, load, make};
 
-fn draft(rt: &HostRuntime) -> anyhow::Result<Result<Draft, Returned>> {
+fn draft(rt: &HostRuntime) -> anyhow::Result<Draft> {
     let room = Room::new(rt.alloc(), MAX_ROWS)?;
-    Ok(make(HEAD, &[row(-2147483648), row(2147483647)], room))
+    Ok(make(HEAD, &[row(-2147483648), row(2147483647)], room)?)
 }
 
 /// What the save says, and how many bytes of the buffer, which were all 9, are not 9 now.
@@ -15,16 +14,11 @@ fn show(
     said: Result<usize, Refusal>,
     out: &[u8],
 ) -> anyhow::Result<()> {
-    let mut last = 0usize;
-    for (i, b) in out.iter().enumerate() {
-        if *b != 9 {
-            last = i;
-        }
-    }
+    let last = out.iter().rposition(|b| *b != 9).unwrap_or(0);
     match said {
         Ok(n) => println!(rt; "save {name}: {n} bytes, the last changed is {last}")?,
         Err(refusal) => {
-            let number = refusal.number();
+            let number = u16::from(refusal);
             println!(rt; "save {name}: refused {number}, the last changed is {last}")?;
         }
     }
@@ -70,12 +64,8 @@ fn try_again(rt: &HostRuntime, draft: &Draft) -> anyhow::Result<()> {
 }
 
 pub(crate) fn try_saves(rt: &HostRuntime) -> anyhow::Result<()> {
-    match draft(rt)? {
-        Ok(draft) => {
-            try_buffers(rt, &draft)?;
-            try_notes(rt, &draft)?;
-            try_again(rt, &draft)
-        }
-        Err(_) => Err(anyhow!("the draft was not made")),
-    }
+    let draft = draft(rt)?;
+    try_buffers(rt, &draft)?;
+    try_notes(rt, &draft)?;
+    try_again(rt, &draft)
 }

@@ -15,16 +15,15 @@ pub struct RowLine {
 
 impl fmt::Display for RowLine {
     fn fmt<W: fmt::Write>(&self, f: &mut fmt::Formatter<W>) -> fmt::Result {
-        let number = self.number;
-        let line = self.row.line;
-        let words = RowWords(self.row);
-        write!(f, "{number}  line {line}  {words}")?;
-        match self.typing {
+        let RowLine {
+            number,
+            row,
+            typing,
+        } = *self;
+        write!(f, "{number}  line {}  {}", row.line, RowWords(row))?;
+        match typing {
             None => Ok(()),
-            Some(typing) => {
-                let typing = TypingWords(typing);
-                write!(f, "  ({typing})")
-            }
+            Some(typing) => write!(f, "  ({})", TypingWords(typing)),
         }
     }
 }

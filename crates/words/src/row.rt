@@ -1,69 +1,63 @@
 //! Rows in words.
 use crate::templates::template;
-use crate::typings::{KindWords, TypingWords};
-use sheet::{Kind, Row, Shape, Size, Typing};
+use crate::typings::{TypingWords, kind_word};
+use sheet::{Kind, Row, Shape, Typing};
 use std::fmt;
+use types::sizes::size_from;
 
 /// Prints a row, as `add rows 5 and 6`. A row whose code has no meaning is shown by its numbers.
 #[derive(Clone, Copy)]
 pub struct RowWords(pub Row);
 
-fn write_kind<W: fmt::Write>(f: &mut fmt::Formatter<W>, number: u16) -> fmt::Result {
-    match Kind::from_number(number) {
-        Some(kind) => {
-            let words = KindWords(kind);
-            write!(f, "{words}")
-        }
-        None => write!(f, "kind {number}"),
-    }
+/// The type that the numbers c, b, r and s of a declaration stand for.
+pub(crate) fn declared(row: &Row) -> Option<Typing> {
+    Some(Typing {
+        kind: Kind::try_from(row.c).ok()?,
+        shape: Shape::try_from(row.b).ok()?,
+        r: size_from(row.r),
+        s: size_from(row.s),
+    })
 }
 
-fn declared(row: &Row) -> Option<Typing> {
-    Some(Typing {
-        kind: Kind::from_number(row.c)?,
-        shape: Shape::from_number(row.b)?,
-        r: Size::from_number(row.r),
-        s: Size::from_number(row.s),
-    })
+fn write_kind<W: fmt::Write>(f: &mut fmt::Formatter<W>, number: u16) -> fmt::Result {
+    match Kind::try_from(number) {
+        Ok(kind) => f.write_str(kind_word(kind)),
+        Err(_) => write!(f, "kind {number}"),
+    }
 }
 
 fn write_type<W: fmt::Write>(f: &mut fmt::Formatter<W>, row: &Row) -> fmt::Result {
     match declared(row) {
-        Some(typing) => {
-            let words = TypingWords(typing);
-            write!(f, "{words}")
-        }
+        Some(typing) => write!(f, "{}", TypingWords(typing)),
         None => write!(f, "no type"),
     }
 }
 
-fn write_field<W: fmt::Write>(f: &mut fmt::Formatter<W>, row: &Row, name: u8) -> fmt::Result {
+fn write_field<W: fmt::Write>(f: &mut fmt::Formatter<W>, row: &Row, name: char) -> fmt::Result {
     match name {
-        b'a' => write!(f, "{}", row.a),
-        b'b' => write!(f, "{}", row.b),
-        b'c' => write!(f, "{}", row.c),
-        b'd' => write!(f, "{}", row.d),
-        b'r' => write!(f, "{}", row.r),
-        b's' => write!(f, "{}", row.s),
-        b'n' => write!(f, "{}", row.n),
-        b'k' => write_kind(f, row.a),
-        b'K' => write_kind(f, row.c),
+        'a' => write!(f, "{}", row.a),
+        'b' => write!(f, "{}", row.b),
+        'c' => write!(f, "{}", row.c),
+        'd' => write!(f, "{}", row.d),
+        'r' => write!(f, "{}", row.r),
+        's' => write!(f, "{}", row.s),
+        'n' => write!(f, "{}", row.n),
+        'k' => write_kind(f, row.a),
+        'K' => write_kind(f, row.c),
         _ => write_type(f, row),
     }
 }
 
+/// A template is text up to its first `%`, and then fields: a letter each, with the text that follows it.
 fn write_template<W: fmt::Write>(f: &mut fmt::Formatter<W>, row: &Row, text: &str) -> fmt::Result {
-    let mut names_field = false;
-    for b in text.bytes() {
-        if names_field {
-            write_field(f, row, b)?;
-            names_field = false;
-        } else if b == b'%' {
-            names_field = true;
-        } else {
-            let c = b as char;
-            write!(f, "{c}")?;
+    let mut parts = text.split('%');
+    f.write_str(parts.next().unwrap_or(""))?;
+    for part in parts {
+        let mut letters = part.chars();
+        if let Some(name) = letters.next() {
+            write_field(f, row, name)?;
         }
+        f.write_str(letters.as_str())?;
     }
     Ok(())
 }

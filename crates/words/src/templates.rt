@@ -2,7 +2,8 @@
 //!
 //! In a template `%a`, `%b`, `%c`, `%d`, `%r`, `%s` and `%n` stand for the row's field of that name, `%k`
 //! for the kind whose number is in a, `%K` for that in c, and `%t` for the type that c, b, r and s write.
-use sheet::{Kind, Row, Shape};
+use crate::row::declared;
+use sheet::{Kind, Row};
 
 /// In field a of a declaration: it has no value, and its elements are nulls.
 const NO_VALUE: u16 = 65535;
@@ -68,15 +69,11 @@ fn measure(c: u16) -> Option<&'static str> {
 
 /// The template, where the number names a kind.
 fn with_kind(number: u16, template: &'static str) -> Option<&'static str> {
-    match Kind::from_number(number) {
-        Some(_) => Some(template),
-        None => None,
-    }
+    Kind::try_from(number).is_ok().then_some(template)
 }
 
 fn declaration(row: &Row) -> Option<&'static str> {
-    let _kind = Kind::from_number(row.c)?;
-    let _shape = Shape::from_number(row.b)?;
+    let _typing = declared(row)?;
     if row.a == NO_VALUE {
         Some("declare %t with nulls")
     } else {

@@ -11,40 +11,35 @@ pub struct HeadWords(pub Head);
 pub struct TypingWords(pub Typing);
 
 #[derive(Clone, Copy)]
-pub struct KindWords(pub Kind);
-
-#[derive(Clone, Copy)]
 struct SizeWords(Size);
 
-impl fmt::Display for KindWords {
-    fn fmt<W: fmt::Write>(&self, f: &mut fmt::Formatter<W>) -> fmt::Result {
-        match self.0 {
-            Kind::Boolean => write!(f, "boolean"),
-            Kind::Character => write!(f, "character"),
-            Kind::Integer => write!(f, "integer"),
-        }
+pub(crate) fn kind_word(kind: Kind) -> &'static str {
+    match kind {
+        Kind::Boolean => "boolean",
+        Kind::Character => "character",
+        Kind::Integer => "integer",
     }
 }
 
 impl fmt::Display for SizeWords {
     fn fmt<W: fmt::Write>(&self, f: &mut fmt::Formatter<W>) -> fmt::Result {
         match self.0 {
-            Size::Open => write!(f, "any"),
-            Size::Known(n) => write!(f, "{n}"),
+            None => write!(f, "any"),
+            Some(n) => write!(f, "{n}"),
         }
     }
 }
 
 impl fmt::Display for TypingWords {
     fn fmt<W: fmt::Write>(&self, f: &mut fmt::Formatter<W>) -> fmt::Result {
-        let kind = KindWords(self.0.kind);
+        let kind = kind_word(self.0.kind);
         let r = SizeWords(self.0.r);
         let s = SizeWords(self.0.s);
         match self.0.shape {
             Shape::Scalar => write!(f, "{kind} scalar"),
             Shape::Vector => match self.0.s {
-                Size::Open => write!(f, "{kind} vector of any length"),
-                Size::Known(n) => write!(f, "{kind} vector of length {n}"),
+                None => write!(f, "{kind} vector of any length"),
+                Some(n) => write!(f, "{kind} vector of length {n}"),
             },
             Shape::Matrix => write!(f, "{kind} matrix of {r} by {s}"),
             Shape::Interval => write!(f, "{kind} interval"),
@@ -54,8 +49,11 @@ impl fmt::Display for TypingWords {
 
 impl fmt::Display for HeadWords {
     fn fmt<W: fmt::Write>(&self, f: &mut fmt::Formatter<W>) -> fmt::Result {
-        let width = self.0.width;
-        let result = TypingWords(self.0.result);
-        write!(f, "width {width}, returns {result}")
+        let Head {
+            width,
+            result,
+            form: _,
+        } = self.0;
+        write!(f, "width {width}, returns {}", TypingWords(result))
     }
 }

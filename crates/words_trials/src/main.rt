@@ -1,7 +1,7 @@
 //! Every row, operator and type in words, and notes with bytes that are not printable.
 #![tactic(auto)]
 
-use sheet::{Kind, Row, Shape, Size, Typing};
+use sheet::{Kind, Row, Shape, Typing};
 use std::io;
 use words::{Escaped, RowWords, TypingWords};
 
@@ -21,10 +21,7 @@ fn row(code: u16, c: u16) -> Row {
 }
 
 fn show(rt: &HostRuntime, row: Row) -> io::Result<()> {
-    let code = row.code;
-    let c = row.c;
-    let words = RowWords(row);
-    println!(rt; "{code}, {c}: {words}")
+    println!(rt; "{}, {}: {}", row.code, row.c, RowWords(row))
 }
 
 fn show_codes(rt: &HostRuntime) -> io::Result<()> {
@@ -52,14 +49,13 @@ fn show_operators(rt: &HostRuntime) -> io::Result<()> {
 
 fn show_types(rt: &HostRuntime) -> io::Result<()> {
     for shape in [Shape::Scalar, Shape::Vector, Shape::Matrix, Shape::Interval] {
-        for s in [Size::Open, Size::Known(5)] {
-            let typing = TypingWords(Typing {
+        for s in [None, Some(5)] {
+            rt.println(TypingWords(Typing {
                 kind: Kind::Boolean,
                 shape,
-                r: Size::Known(3),
+                r: Some(3),
                 s,
-            });
-            println!(rt; "{typing}")?;
+            }))?;
         }
     }
     Ok(())
@@ -69,8 +65,6 @@ fn main(rt: HostRuntime) -> io::Result<()> {
     show_codes(&rt)?;
     show_operators(&rt)?;
     show_types(&rt)?;
-    let note = Escaped(b"a b~\n\r\t\"\\\x00\x1f\x7f\xff");
-    println!(rt; "{note}")?;
-    let none = Escaped(b"");
-    println!(rt; "{none}")
+    rt.println(Escaped(b"a b~\n\r\t\"\\\x00\x1f\x7f\xff"))?;
+    rt.println(Escaped(b""))
 }

@@ -8,6 +8,6 @@ returns-then-space-trailer c =
     let l = c.in_ok-trailer.ensures in (
       l.0,
       subst (Laid (length c.args.file.now)) l.1 (c.if-not-is_laid.ensures.0 refl),
-      (c.in-Some.head, c.in-Some.ensures ∙ ap (λ t. t.head) l.1),
+      (c.in_ok-head.head, c.in_ok-head.ensures ∙ ap (λ t. t.head) l.1),
       subst (λ (t : Trailer). c.args.space < t.count) l.1 c.if-space-trailer.true,
     )

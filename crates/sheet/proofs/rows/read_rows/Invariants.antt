@@ -1,7 +1,10 @@
-use Rattle.std.proofs.Common.{◌≡◌, ◌*◌, take, vec_items, vec_len, vec_capacity}
-use Rattle.std.specs.List.{flat_map}
+use Rattle.std.proofs.Common.{◌≡◌, map, take, vec_items, vec_len, vec_capacity}
 use Rattle.sheet.specs.Rows.{row_bytes}
 use Rattle.sheet.proofs.rows.read_rows.Given as goal
 
-abbrev pub invariant-loop-i : goal.invariant-loop-i
-invariant-loop-i l = (flat_map row_bytes (vec_items l.rows) ≡ take (20 * l.i) l.body) × (vec_len l.rows ≡ l.i) × (vec_capacity l.rows ≡ vec_capacity l.initial.rows)
+abbrev pub invariant-loop-part : goal.invariant-loop-part
+invariant-loop-part l = record {
+  parts : map row_bytes (vec_items l.rows) ≡ take l.part-index l.parts;
+  len : vec_len l.rows ≡ l.part-index;
+  capacity : vec_capacity l.rows ≡ vec_capacity l.initial.rows;
+}

@@ -19,7 +19,7 @@ returns c =
     let rows = vec_items d.rows in
     let n = c.len-count.result in
     let k : n ≡ length rows = search rules in
-    let t : c.trailer_bytes.result ≡ trailer_bytes (record { offset = length note; count = length rows; head = numbers_of d.head; mark = 0x5047 }) = c.trailer_bytes.ensures ∙ (λ i. trailer_bytes (record { offset = length note; count = k i; head = c.numbers.ensures i; mark = 0x5047 })) in
+    let t : c.trailer_bytes.result ≡ trailer_bytes (record { offset = length note; count = length rows; head = numbers_of d.head; mark = 0x5047 }) = c.trailer_bytes.ensures ∙ (λ i. trailer_bytes (record { offset = length note; count = k i; head = c.from.ensures i; mark = 0x5047 })) in
     record {
       short = omega arith;
       len = saved_length note (numbers_of d.head) rows n k;
