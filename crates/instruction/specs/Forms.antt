@@ -57,13 +57,13 @@ abbrev pub cast_to : Option Kind → ℕ → Option Make
 cast_to None a = None
 cast_to (Some k) a = Some (make.Cast k a)
 
-abbrev pub declares : Option Kind → Option Shape → Size → Size → Option ℕ → Option Instruction
-declares None x r s v = None
-declares (Some k) None r s v = None
-declares (Some k) (Some x) r s v = cond (type_fits k x r s) (Some (Change (change.Declare (typing k x r s) v))) None
+abbrev pub declared : Option Kind → Option Shape → Size → Size → Option ℕ → Option Instruction
+declared None x r s v = None
+declared (Some k) None r s v = None
+declared (Some k) (Some x) r s v = cond (type_fits k x r s) (Some (Change (change.Declare (typing k x r s) v))) None
 
-abbrev pub declared : Row → Option Instruction
-declared x = declares (kind_of x.c) (shape_of x.b) (written x.r) (written x.s) (start_of x.a)
+abbrev pub declared_by : Row → Option Instruction
+declared_by x = declared (kind_of x.c) (shape_of x.b) (written x.r) (written x.s) (start_of x.a)
 
 -- ---- by the code, stray fields aside
 abbrev pub expression_of : Row → Option Make
@@ -84,7 +84,7 @@ expression_of x =
 
 abbrev pub statement_of : Row → Option Instruction
 statement_of x =
-    cond (x.code == 20) (declared x) (
+    cond (x.code == 20) (declared_by x) (
     cond (x.code == 21) (Some (Change (change.Assign x.a x.b))) (
     cond (x.code == 22) (Some (Change (change.Store x.a x.b x.c))) (
     cond (x.code == 23) (Some (Change (change.StoreTwo x.a x.b x.c x.d))) (

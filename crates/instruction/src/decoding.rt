@@ -1,6 +1,6 @@
 //! Reading a row's numbers: the rule that looks at one row alone.
 ghost use Rattle.std.specs.Prelude.{◌≡◌, Some};
-ghost use Rattle.instruction.specs.Forms.{literal_fits, start_of, literal as literal_form, declared as declared_form, expression_of, statement_of, form};
+ghost use Rattle.instruction.specs.Forms.{literal_fits, start_of, literal as literal_form, declared_by, expression_of, statement_of, form};
 
 use crate::fields::{fields_of, is_plain};
 use crate::instructions::{Change, Control, Expression, Infix, Instruction, Measure, Prefix};
@@ -35,7 +35,7 @@ fn start_of(a: u16) -> Option<u16>
 }
 
 fn declare(x: Row) -> Option<Instruction>
-    ensures { result ≡ declared_form x }
+    ensures { result ≡ declared_by x }
 {
     let typing = Typing {
         kind: Kind::try_from(x.c).ok()?,
@@ -43,9 +43,7 @@ fn declare(x: Row) -> Option<Instruction>
         r: size_from(x.r),
         s: size_from(x.s),
     };
-    typing
-        .has_fixed_sizes()
-        .then_some(Instruction::Change(Change::Declare(typing, start_of(x.a))))
+    typing.has_fixed_sizes().then_some(Instruction::Change(Change::Declare(typing, start_of(x.a))))
 }
 
 fn expression_of(x: Row) -> Option<Expression>

@@ -1,5 +1,5 @@
 -- Progress and preservation: one lemma an effect, then what each row does with an outcome, then every row.
-use Rattle.std.proofs.Common.{◌≡◌, ℕ, suc, ◌+◌, ◌-◌, ◌*◌, ◌<◌, ◌≤◌, Bool, true, false, cond, ◌&&◌, ◌||◌, ltb, leb, ◌⊎◌, List, [], ◌∷◌, length, drop, Some, Ok, Err, Option, sym, refl, ap, ◌∙◌, subst, inl, inr, arith}
+use Rattle.std.proofs.Common.{◌≡◌, ℕ, suc, ◌+◌, ◌-◌, ◌*◌, ◌<◌, ◌≤◌, Bool, true, false, cond, ◌&&◌, ◌||◌, ltb, leb, ◌⊎◌, List, [], ◌∷◌, length, drop, Some, Ok, Err, Option, sym, refl, ap, ◌∙◌, subst, inl, inr, arith, None}
 use Rattle.std.proofs.lemmas.List.{length-set}
 use Rattle.std.proofs.lemmas.Bool.{and_parts, leb-true, leb-false, cond-true, cond_both}
 use Rattle.types.specs.declared.kinds.Kind.{Kind}
@@ -7,7 +7,6 @@ use Rattle.types.specs.declared.kinds.Kind.TheVariants.{Boolean, Character, Inte
 use Rattle.types.specs.declared.kinds.Shape.TheVariants.{Scalar, Vector, Interval}
 use Rattle.types.specs.declared.typing.Typing.{Typing}
 use Rattle.types.specs.Types.{same_shape, agree}
-use Rattle.types.specs.declared.kinds.Size.TheVariants.{Known}
 use Rattle.types.specs.Typings.{typing, scalar, is, of, flat, alone, matches}
 use Rattle.source.specs.Taking.{gone}
 use Rattle.source.specs.Waiting.{behind}
@@ -15,8 +14,6 @@ use Rattle.source.specs.Words.{rest}
 use Rattle.source.proofs.Cuts.{from_front}
 use Rattle.fault.specs.declared.causes.Cause.{Cause}
 use Rattle.fault.specs.declared.causes.Cause.TheVariants.{SizesDiffer, Disordered, NoRule}
-use Rattle.instruction.specs.declared.instructions.Start.{Start}
-use Rattle.instruction.specs.declared.instructions.Start.TheVariants.{Nulls, Value as Given}
 use Rattle.instruction.specs.declared.instructions.Change.{Change as Changes}
 use Rattle.instruction.specs.declared.instructions.Change.TheVariants as change
 use Rattle.instruction.specs.declared.instructions.Control.{Control as Turn}
@@ -284,7 +281,7 @@ module _ (W rows : ℕ) (notes : ℕ → Typing) (p line : ℕ) (s : State) (roo
       subst Goal (sym (cond-true test (cond fit yes' no') (stuck W p line s) has))
       (cond_both fit yes' no' Goal
       (λ yes.
-      let sizes = and_parts (agree head.r (Known f.r)) (agree head.s (Known f.s)) yes in
+      let sizes = and_parts (agree head.r (Some f.r)) (agree head.s (Some f.s)) yes in
       inl (record {
         value = v;
         holds = ready.1;
@@ -324,9 +321,9 @@ module _ (W line : ℕ) (head : Typing) (lines : List Line) (rows : ℕ) (s : St
   abbrev Hand : List ℕ → Type 0
   Hand is = AllUnder rows is × AllReady W notes (value_at W s) is
 
-  begins_kept : (w : Typing) (v : Start) → Writes w → Hand (start_reads v) → start_rule W head notes w v ≡ Ok own → StepMakes W rows notes p line s roomy inside p (begins W p line s w v)
-  begins_kept w Nulls law hand h = declares_kept W rows notes p line s roomy inside (outcome W (nulls w)) (λ v o. wholes.nulls W w v o) (nulls_safe W w own law h)
-  begins_kept w (Given a) law hand h =
+  begins_kept : (w : Typing) (v : Option ℕ) → Writes w → Hand (start_reads v) → start_rule W head notes w v ≡ Ok own → StepMakes W rows notes p line s roomy inside p (begins W p line s w v)
+  begins_kept w None law hand h = declares_kept W rows notes p line s roomy inside (outcome W (nulls w)) (λ v o. wholes.nulls W w v o) (nulls_safe W w own law h)
+  begins_kept w (Some a) law hand h =
       let ra = hand.1.0 in
       let e = with_some (value_at W s a) (λ v. outcome W (declared w v)) ra.0 ra.1 in
       subst (λ (o : Outcome). StepMakes W rows notes p line s roomy inside p (declares W p line s o)) (sym e)
@@ -378,7 +375,7 @@ module _ (W line : ℕ) (head : Typing) (lines : List Line) (rows : ℕ) (s : St
       (store_two_safe W u rb.0 rc.0 rd.0 (notes i) (notes b) (notes c) (notes d) own ri.2 rb.2 rc.2 rd.2 h))
 
   change_kept : (c : Changes) → change_writes c ≡ true → Hand (change_reads c) → change_rule W head notes c ≡ Ok own → (let x = changes W p line s head c in ChangeLeaves W rows notes p line s x.answer x.state head c)
-  change_kept (change.Declare k x r z v) law hand h = begins_kept (typing k x r z) v law hand h
+  change_kept (change.Declare w v) law hand h = begins_kept w v law hand h
   change_kept (change.Assign i a) law hand h = assigns_kept i a hand h
   change_kept (change.Store i b c) law hand h = stores_kept i b c hand h
   change_kept (change.StoreTwo i b c d) law hand h = stores_two_kept i b c d hand h

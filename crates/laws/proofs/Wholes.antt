@@ -6,13 +6,11 @@ use Rattle.types.specs.declared.kinds.Kind.{Kind}
 use Rattle.types.specs.declared.kinds.Kind.TheVariants.{Boolean, Character, Integer}
 use Rattle.types.specs.declared.kinds.Shape.{Shape}
 use Rattle.types.specs.declared.kinds.Shape.TheVariants.{Scalar, Vector, Matrix, Interval}
-use Rattle.types.specs.declared.kinds.Size.{Size}
-use Rattle.types.specs.declared.kinds.Size.TheVariants.{Known}
 use Rattle.types.specs.declared.typing.Typing.{Typing}
-use Rattle.types.specs.Types.{same_kind, same_shape}
+use Rattle.types.specs.Types.{Size, same_kind, same_shape}
 use Rattle.types.specs.Typings.{is, of, flat, alone, index, pairs, type_fits}
-use Rattle.arithmetic.specs.declared.operators.Prefix.{Prefix}
-use Rattle.arithmetic.specs.declared.operators.Prefix.TheVariants.{Minus, Not}
+use Rattle.instruction.specs.declared.instructions.Prefix.{Prefix}
+use Rattle.instruction.specs.declared.instructions.Prefix.TheVariants.{Minus, Not}
 use Rattle.arithmetic.specs.declared.faults.ArithmeticFault.{ArithmeticFault}
 use Rattle.arithmetic.specs.declared.faults.ElementFault.{ElementFault}
 use Rattle.arithmetic.specs.Exact.{exact, negated}
@@ -127,7 +125,7 @@ length_of : (k : Kind) (v : Value) → same_kind k v.layout.kind ≡ true → Wh
 length_of k v same long = length_as k v.layout.kind v.elements same ∙ long
 
 -- all shapes but a matrix have one row
-one_row : (k : Kind) (x : Shape) (r s : ℕ) → type_fits k x (Known r) (Known s) ≡ true → not (same_shape Matrix x) ≡ true → r * s ≡ s
+one_row : (k : Kind) (x : Shape) (r s : ℕ) → type_fits k x (Some r) (Some s) ≡ true → not (same_shape Matrix x) ≡ true → r * s ≡ s
 one_row k Scalar r s h t = ap (λ (m : ℕ). m * s) (eqb-true r 1 (and_parts (eqb r 1) (eqb s 1) h).0) ∙ one-mul s
 one_row k Vector r s h t = ap (λ (m : ℕ). m * s) (eqb-true r 1 h) ∙ one-mul s
 one_row k Matrix r s h t = absurd (never t)
@@ -136,7 +134,7 @@ one_row Character Interval r s h t = absurd (never h)
 one_row Integer Interval r s h t = ap (λ (m : ℕ). m * s) (eqb-true r 1 (and_parts (eqb r 1) (eqb s 2) h).0) ∙ one-mul s
 
 -- what is no integer is no interval
-no_interval : (k l : Kind) (x : Shape) (r s m : ℕ) → same_kind k l ≡ true → same_kind k Integer ≡ false → type_fits l x (Known r) (Known s) ≡ true → cond (same_shape Interval x) m s ≡ s
+no_interval : (k l : Kind) (x : Shape) (r s m : ℕ) → same_kind k l ≡ true → same_kind k Integer ≡ false → type_fits l x (Some r) (Some s) ≡ true → cond (same_shape Interval x) m s ≡ s
 no_interval k l Scalar r s m e h f = refl
 no_interval k l Vector r s m e h f = refl
 no_interval k l Matrix r s m e h f = refl
@@ -163,13 +161,13 @@ length_listing Integer v same t g =
 length_index : (v : Value) → index (exactly v) ≡ true → Good v → length (listing Integer v) ≡ count v
 length_index v h g = let p = and_parts (of Integer (exactly v)) (not (is Matrix (exactly v))) h in length_listing Integer v p.0 p.1 g
 
-scalar_count : (k : Kind) (y : Shape) (r s m : ℕ) → type_fits k y (Known r) (Known s) ≡ true → same_shape Scalar y ≡ true → cond (same_shape Interval y) m s ≡ 1
+scalar_count : (k : Kind) (y : Shape) (r s m : ℕ) → type_fits k y (Some r) (Some s) ≡ true → same_shape Scalar y ≡ true → cond (same_shape Interval y) m s ≡ 1
 scalar_count k Scalar r s m h t = eqb-true s 1 (and_parts (eqb r 1) (eqb s 1) h).1
 scalar_count k Vector r s m h t = absurd (never t)
 scalar_count k Matrix r s m h t = absurd (never t)
 scalar_count k Interval r s m h t = absurd (never t)
 
-scalar_area : (k : Kind) (x : Shape) (r s : ℕ) → type_fits k x (Known r) (Known s) ≡ true → same_shape Scalar x ≡ true → r * s ≡ 1
+scalar_area : (k : Kind) (x : Shape) (r s : ℕ) → type_fits k x (Some r) (Some s) ≡ true → same_shape Scalar x ≡ true → r * s ≡ 1
 scalar_area k Scalar r s h t = let p = and_parts (eqb r 1) (eqb s 1) h in λ i. eqb-true r 1 p.0 i * eqb-true s 1 p.1 i
 scalar_area k Vector r s h t = absurd (never t)
 scalar_area k Matrix r s h t = absurd (never t)
@@ -366,7 +364,7 @@ interval_row Vector h = absurd (never h)
 interval_row Matrix h = absurd (never h)
 interval_row Interval h = refl
 
-vector_row : (k : Kind) (x : Shape) (r s : ℕ) → type_fits k x (Known r) (Known s) ≡ true → same_shape Vector x ≡ true → r * s ≡ s
+vector_row : (k : Kind) (x : Shape) (r s : ℕ) → type_fits k x (Some r) (Some s) ≡ true → same_shape Vector x ≡ true → r * s ≡ s
 vector_row k Scalar r s h t = absurd (never t)
 vector_row k Vector r s h t = one_row k Vector r s h refl
 vector_row k Matrix r s h t = absurd (never t)
