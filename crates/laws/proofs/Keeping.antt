@@ -36,7 +36,7 @@ use Rattle.laws.specs.Fitting.{SizeFits, Held, Ready, AllReady}
 use Rattle.laws.specs.Reads.{make_reads}
 use Rattle.laws.proofs.Guards.{Safe, Matched, Met, safe, Meets, meets_value, meets_unless, meets_sized, meets_cond}
 use Rattle.laws.proofs.Sizes.{fits_either, fits_plus, fits_larger, fits_cond, fits_written, fits_given}
-use Rattle.laws.proofs.Layouts.{never, kind_same}
+use Rattle.laws.proofs.Layouts.{kind_same}
 use Rattle.laws.proofs.Wholes.{same_sizes}
 
 -- ---- an operand that is as noted: its note has its own kind and shape
@@ -58,7 +58,7 @@ fixed_flat : (k l : Kind) (x : Shape) (r s : ℕ) → not (same_shape Interval x
 fixed_flat k l Scalar r s p h = h
 fixed_flat k l Vector r s p h = h
 fixed_flat k l Matrix r s p h = h
-fixed_flat k l Interval r s p h = absurd (never p)
+fixed_flat k l Interval r s p h = cc
 
 fixed_cond : (t : Bool) (k : Kind) (x y : Shape) (r q s p : ℕ) → fixed (layout_of k x r s) ≡ true → fixed (layout_of k y q p) ≡ true → fixed (layout_of k (cond t x y) (cond t r q) (cond t s p)) ≡ true
 fixed_cond true k x y r q s p h g = h
@@ -79,11 +79,11 @@ matched_spread false false eq k xa xb Ra Sa Rb Sb ra sa rb sb e p q u v =
 
 -- ---- one operand
 resize_fixed : (k : Kind) (x : Shape) (R S : Size) → (same_shape Vector x || same_shape Matrix x) ≡ true → (same_shape Matrix x || exact_size 1 R) ≡ true → fixed (layout_of k x (size_or R 0) (size_or S 0)) ≡ true
-resize_fixed k Scalar R S h g = absurd (never h)
-resize_fixed k Vector None S h g = absurd (never g)
+resize_fixed k Scalar R S h g = cc
+resize_fixed k Vector None S h g = cc
 resize_fixed k Vector (Some r) S h g = g
 resize_fixed k Matrix R S h g = refl
-resize_fixed k Interval R S h g = absurd (never h)
+resize_fixed k Interval R S h g = cc
 
 module _ (W : ℕ) (a : Value) (Ra Sa : Size) (oa : Operand a Ra Sa) where
   meets_prefix : (op : Prefix) → Meets (prefix_rule op (note_of a Ra Sa)) (prefixed op a)
@@ -140,9 +140,9 @@ module _ (W : ℕ) (a : Value) (Ra Sa : Size) (oa : Operand a Ra Sa) where
 -- ---- two operands
 one_count : (k : Kind) (y : Shape) (r s m : ℕ) → fixed (layout_of k y r s) ≡ true → same_shape Scalar y ≡ true → cond (same_shape Interval y) m s ≡ 1
 one_count k Scalar r s m h t = eqb-true s 1 (and_parts (eqb r 1) (eqb s 1) h).1
-one_count k Vector r s m h t = absurd (never t)
-one_count k Matrix r s m h t = absurd (never t)
-one_count k Interval r s m h t = absurd (never t)
+one_count k Vector r s m h t = cc
+one_count k Matrix r s m h t = cc
+one_count k Interval r s m h t = cc
 
 pick_fixed : (t : Bool) (k : Kind) (c : ℕ) → (t ≡ true → c ≡ 1) → fixed (layout_of k (cond t Scalar Vector) 1 c) ≡ true
 pick_fixed true k c e = eq-eqb c 1 (e refl)
@@ -167,10 +167,10 @@ pick_two_matched false false k S T b c e p q = matched_known k Matrix S T b c tr
 
 product_dot : (v : Bool) (r s : ℕ) (b : Bool) → v ≡ true → Matched (scalar Integer) (layout_of Integer (cond v Scalar Matrix) (cond v 1 r) (cond v 1 s)) b
 product_dot true r s b h = matched_known Integer Scalar (Some 1) (Some 1) 1 1 b refl refl
-product_dot false r s b h = absurd (never h)
+product_dot false r s b h = cc
 
 product_matrix : (v : Bool) (R S : Size) (r s : ℕ) (b : Bool) → v ≡ false → SizeFits R r → SizeFits S s → Matched (matrix Integer R S) (layout_of Integer (cond v Scalar Matrix) (cond v 1 r) (cond v 1 s)) b
-product_matrix true R S r s b h p q = absurd (never (sym h))
+product_matrix true R S r s b h p q = cc
 product_matrix false R S r s b h p q = matched_known Integer Matrix R S r s b p q
 
 fits_count : (b : Value) (R S : Size) → Operand b R S → SizeFits (span (note_of b R S)) (count b)
@@ -351,7 +351,7 @@ module _ (W : ℕ) (at : ℕ → Option Value) (notes : ℕ → Typing) where
 -- ---- rows that declare
 size_written : (n : ℕ) (w : Size) (m : ℕ) → exact_size n w ≡ true → eqb (size_or w m) n ≡ true
 size_written n (Some x) m h = h
-size_written n None m h = absurd (never h)
+size_written n None m h = cc
 
 written_fixed : (k : Kind) (x : Shape) (R S : Size) (r s : ℕ) → type_fits k x R S ≡ true → fixed (layout_of k x (size_or R r) (size_or S s)) ≡ true
 written_fixed k Scalar R S r s h =
@@ -359,8 +359,8 @@ written_fixed k Scalar R S r s h =
     and_from (eqb (size_or R r) 1) (eqb (size_or S s) 1) (size_written 1 R r p.0) (size_written 1 S s p.1)
 written_fixed k Vector R S r s h = size_written 1 R r h
 written_fixed k Matrix R S r s h = refl
-written_fixed Boolean Interval R S r s h = absurd (never h)
-written_fixed Character Interval R S r s h = absurd (never h)
+written_fixed Boolean Interval R S r s h = cc
+written_fixed Character Interval R S r s h = cc
 written_fixed Integer Interval R S r s h =
     let p = and_parts (exact_size 1 R) (exact_size 2 S) h in
     and_from (eqb (size_or R r) 1) (eqb (size_or S s) 2) (size_written 1 R r p.0) (size_written 2 S s p.1)

@@ -77,9 +77,9 @@ turned_whole v n x h = by (is Vector (exactly v) || is Interval (exactly v)) (in
   where
     by : (a b c : Bool) → cond a (cond b (cond c (takes (element_at v n)) over) (fails Disordered)) (fails NoRule) ≡ takes x → Whole x
     by true true true h = let same : element_at v n ≡ x = cc in subst Whole same refl
-    by true true false h = absurd (let z : ◌≡◌ {A = ℕ} 0 1 = cc in omega arith)
-    by true false c h = absurd (let z : ◌≡◌ {A = ℕ} 0 1 = cc in omega arith)
-    by false b c h = absurd (let z : ◌≡◌ {A = ℕ} 0 1 = cc in omega arith)
+    by true true false h = cc
+    by true false c h = cc
+    by false b c h = cc
 
 -- ---- what a read leaves in the source
 behind_front : (xs : List ℕ) → behind xs ≡ drop (gone xs (behind xs)) xs

@@ -34,7 +34,7 @@ abbrev Fine : Option Instruction → Type 0
 Fine o = (i : Instruction) → o ≡ Some i → written_fits i ≡ true
 
 fine_none : Fine None
-fine_none i e = absurd (let z : ◌≡◌ {A = ℕ} 0 1 = cc in omega arith)
+fine_none i e = cc
 
 fine_some : (x : Instruction) → written_fits x ≡ true → Fine (Some x)
 fine_some x h i e = let same : x ≡ i = cc in ap written_fits (sym same) ∙ h
