@@ -36,7 +36,7 @@ use Rattle.laws.specs.Fitting.{SizeFits, Held, Ready, AllReady}
 use Rattle.laws.specs.Reads.{make_reads}
 use Rattle.laws.proofs.Guards.{Safe, Matched, Met, safe, Meets, meets_value, meets_unless, meets_sized, meets_cond}
 use Rattle.laws.proofs.Sizes.{fits_either, fits_plus, fits_larger, fits_cond, fits_written, fits_given}
-use Rattle.laws.proofs.Layouts.{kind_same}
+use Rattle.meaning.proofs.Rows.{kinds_equal}
 use Rattle.laws.proofs.Wholes.{same_sizes}
 
 -- ---- an operand that is as noted: its note has its own kind and shape
@@ -92,14 +92,14 @@ module _ (W : ℕ) (a : Value) (Ra Sa : Size) (oa : Operand a Ra Sa) where
       meets_value (note_of a Ra Sa) (prefixed Minus a) (record {
         ruled = ok;
         exists = fixed_flat a.layout.kind Integer a.layout.shape a.layout.r a.layout.s p.1 oa.exists;
-        matched = record { kind = kind_same Integer a.layout.kind p.0; shape = refl; r = λ _. oa.r; s = λ _. oa.s };
+        matched = record { kind = kinds_equal Integer a.layout.kind p.0; shape = refl; r = λ _. oa.r; s = λ _. oa.s };
       }))
   meets_prefix Not = meets_unless (of Boolean (exactly a) && flat (exactly a)) Unfit (value (note_of a Ra Sa)) (prefixed Not a) (λ ok.
       let p = and_parts (of Boolean (exactly a)) (flat (exactly a)) ok in
       meets_value (note_of a Ra Sa) (prefixed Not a) (record {
         ruled = ok;
         exists = fixed_flat a.layout.kind Boolean a.layout.shape a.layout.r a.layout.s p.1 oa.exists;
-        matched = record { kind = kind_same Boolean a.layout.kind p.0; shape = refl; r = λ _. oa.r; s = λ _. oa.s };
+        matched = record { kind = kinds_equal Boolean a.layout.kind p.0; shape = refl; r = λ _. oa.r; s = λ _. oa.s };
       }))
 
   meets_cast : (k : Kind) → Meets (cast_rule k (note_of a Ra Sa)) (cast_to k a)

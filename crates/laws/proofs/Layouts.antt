@@ -1,42 +1,17 @@
 -- Tests of kinds and shapes that pass, and layouts of scalars.
 use Rattle.std.proofs.Common.{◌≡◌, ℕ, true, false, ◌&&◌, ◌||◌, eqb, leb, sym, refl, ap, ◌∙◌, arith}
 use Rattle.std.proofs.lemmas.Bool.{and_parts, and_from, eqb-true}
+use Rattle.std.proofs.lemmas.Bool.Decides.{nat_tests}
 use Rattle.types.specs.declared.kinds.Kind.{Kind}
 use Rattle.types.specs.declared.kinds.Kind.TheVariants.{Boolean, Character, Integer}
 use Rattle.types.specs.declared.kinds.Shape.{Shape}
 use Rattle.types.specs.declared.kinds.Shape.TheVariants.{Scalar, Vector, Matrix, Interval}
-use Rattle.types.specs.Types.{same_kind, same_shape}
+use Rattle.types.specs.Types.{same_shape}
 use Rattle.meaning.specs.declared.layouts.Layout.{Layout}
 use Rattle.meaning.specs.Values.{layout_of, scalar_of, fixed, within, lawful}
 
-pub kind_same : (k l : Kind) → same_kind k l ≡ true → k ≡ l
-kind_same Boolean Boolean h = refl
-kind_same Boolean Character h = cc
-kind_same Boolean Integer h = cc
-kind_same Character Boolean h = cc
-kind_same Character Character h = refl
-kind_same Character Integer h = cc
-kind_same Integer Boolean h = cc
-kind_same Integer Character h = cc
-kind_same Integer Integer h = refl
-
 pub shape_same : (x y : Shape) → same_shape x y ≡ true → x ≡ y
-shape_same Scalar Scalar h = refl
-shape_same Scalar Vector h = cc
-shape_same Scalar Matrix h = cc
-shape_same Scalar Interval h = cc
-shape_same Vector Scalar h = cc
-shape_same Vector Vector h = refl
-shape_same Vector Matrix h = cc
-shape_same Vector Interval h = cc
-shape_same Matrix Scalar h = cc
-shape_same Matrix Vector h = cc
-shape_same Matrix Matrix h = refl
-shape_same Matrix Interval h = cc
-shape_same Interval Scalar h = cc
-shape_same Interval Vector h = cc
-shape_same Interval Matrix h = cc
-shape_same Interval Interval h = refl
+shape_same x y h = grind (arith, nat_tests)
 
 -- a lawful scalar has the layout of scalars
 pub scalar_same : (k : Kind) (x : Shape) (r s : ℕ) → fixed (layout_of k x r s) ≡ true → same_shape Scalar x ≡ true → scalar_of k ≡ layout_of k x r s

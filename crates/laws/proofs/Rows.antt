@@ -39,7 +39,8 @@ use Rattle.laws.specs.Fitting.{Fits, Held, Ready, AllReady}
 use Rattle.laws.specs.Reads.{reads, make_reads, start_reads, change_reads, resume_reads, reopen_reads, turn_reads, AllUnder}
 use Rattle.laws.specs.Laws.{Whole, Roomy, WholeAt, AllWhole}
 use Rattle.laws.specs.Keeps.{Made, Failed, Ended, Passed, Printed, Awaits, Filled, Returned, Makes, Branches, Advances, ChangeLeaves, ResumeLeaves, ReopenLeaves, TurnLeaves, Leaves, AllNoted, resumed, reopened, turn_advances, advanced, change_writes, written_fits, RowsSafe}
-use Rattle.laws.proofs.Layouts.{kind_same, shape_same, scalar_same, scalar_lawful}
+use Rattle.meaning.proofs.Rows.{kinds_equal}
+use Rattle.laws.proofs.Layouts.{shape_same, scalar_same, scalar_lawful}
 use Rattle.laws.proofs.Sizes.{agree_fits}
 use Rattle.laws.proofs.Tables.{effects, found, under_all, lawful_area, table_length, valued_some, layout_kind}
 use Rattle.laws.proofs.Wholes.{wholes, layout_of}
@@ -288,7 +289,7 @@ module _ (W rows : ℕ) (notes : ℕ → Typing) (p line : ℕ) (s : State) (roo
         answer = refl;
         same = refl;
         fits = record {
-          kind = sym (kind_same head.kind f.kind both.0);
+          kind = sym (kinds_equal head.kind f.kind both.0);
           shape = sym (shape_same head.shape f.shape both.1);
           r = agree_fits head.r f.r sizes.0;
           s = agree_fits head.s f.s sizes.1;

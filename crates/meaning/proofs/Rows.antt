@@ -1,6 +1,7 @@
 -- Where the cells of rows lie, and what lawful layouts say of sizes.
 use Rattle.std.proofs.Common.{◌≡◌, ℕ, suc, ◌+◌, ◌*◌, ◌<◌, ◌≤◌, true, ◌&&◌, eqb, leb, refl, mul-le-mul_right, suc-mul, arith}
 use Rattle.std.proofs.lemmas.Bool.{and_parts, leb-true, eqb-true}
+use Rattle.std.proofs.lemmas.Bool.Decides.{nat_tests}
 use Rattle.types.specs.declared.kinds.Kind.{Kind}
 use Rattle.types.specs.declared.kinds.Kind.TheVariants.{Boolean, Character, Integer}
 use Rattle.types.specs.declared.kinds.Shape.{Shape}
@@ -80,12 +81,4 @@ as_cells Integer Character t at n h = cc
 as_cells Integer Integer t at n h = refl
 
 pub kinds_equal : (k l : Kind) → same_kind k l ≡ true → k ≡ l
-kinds_equal Boolean Boolean h = refl
-kinds_equal Boolean Character h = cc
-kinds_equal Boolean Integer h = cc
-kinds_equal Character Boolean h = cc
-kinds_equal Character Character h = refl
-kinds_equal Character Integer h = cc
-kinds_equal Integer Boolean h = cc
-kinds_equal Integer Character h = cc
-kinds_equal Integer Integer h = refl
+kinds_equal k l h = grind (arith, nat_tests)
