@@ -25,7 +25,7 @@ fn next_start(i: Instruction, start: usize, p: usize) -> usize
 }
 
 /// The first row that breaks a rule, and the rule.
-#[derive(Clone, Copy)]
+#[derive(Clone, Copy, Debug, PartialEq, Eq)]
 struct Broken {
     refusal: Refusal,
     row: usize,
@@ -50,6 +50,7 @@ fn check_rows(lines: &mut Vec<Line>, head: Head, rows: &[Row]) -> Result<(), Bro
             start,
             is_last: p + 1 == rows.len(),
         };
+        // The proof did not close with `map_err` and `?` here.
         let line = match position.judge(*row) {
             Err(refusal) => return Err(Broken { refusal, row: p }),
             Ok(line) => line,

@@ -29,7 +29,7 @@ impl Position<'_> {
             return false;
         };
         let opener = self.line_at(c).instruction;
-        is_if(opener) && closer_of(opener) as usize == self.row
+        is_if(opener) && usize::from(closer_of(opener)) == self.row
     }
 
     /// Whether the row, an end that names row b, may close the innermost block.
@@ -39,7 +39,7 @@ impl Position<'_> {
         let Some(c) = self.blocks.innermost() else {
             return false;
         };
-        b == c && closer_of(self.line_at(c).instruction) as usize == self.row
+        b == c && usize::from(closer_of(self.line_at(c).instruction)) == self.row
     }
 
     fn is_control_nested(&self, t: Control) -> bool

@@ -11,7 +11,7 @@ impl Position<'_> {
     fn is_near(&self, a: u16) -> bool
         ensures { result ≡ between self.now.start self.now.row a }
     {
-        self.start <= a as usize && (a as usize) < self.row
+        (self.start..self.row).contains(&usize::from(a))
     }
 
     fn is_expression_placed(&self, e: Expression) -> bool

@@ -27,7 +27,7 @@ impl Position<'_> {
     pub fn line_at(&self, i: u16) -> Line
         ensures { result ≡ at self.now.lines.now i }
     {
-        self.lines.get(i as usize).copied().unwrap_or(Line {
+        self.lines.get(usize::from(i)).copied().unwrap_or(Line {
             instruction: Instruction::Change(Change::Return(0)),
             typing: None,
             block: None,

@@ -20,7 +20,7 @@ impl Position<'_> {
         ensures { result ≡ in_scope self.now.lines.now self.now.row (open_rows self.now.blocks.now) v }
     {
         let line = self.line_at(v);
-        (v as usize) < self.row && is_declare(line.instruction) && self.is_still_in(line.block)
+        usize::from(v) < self.row && is_declare(line.instruction) && self.is_still_in(line.block)
     }
 
     /// Whether row v is an each row whose block is still open.

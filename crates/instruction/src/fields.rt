@@ -44,7 +44,7 @@ fn is_zero(n: i32) -> bool
 }
 
 /// Whether each other field of the row is 0.
-// No plainer: to compare with a row whose other fields are 0 takes ten such rows here, and each again in specs/ with a proof of its ranges.
+// No plainer: to compare with the row whose other fields are 0, each arm writes all nine, since a row with ghost fields takes no `..`.
 pub fn is_plain(fields: Fields, x: Row) -> bool
     ensures { result ≡ plain fields x }
 {
