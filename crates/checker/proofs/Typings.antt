@@ -12,7 +12,6 @@ use Rattle.instruction.specs.declared.instructions.Control.{Control as Turn}
 use Rattle.instruction.specs.declared.instructions.Control.TheVariants as control
 use Rattle.instruction.specs.declared.instructions.Instruction.{Instruction}
 use Rattle.instruction.specs.declared.instructions.Instruction.TheVariants.{Expression, Change, Control}
-use Rattle.types.specs.Typings.{typing}
 use Rattle.rules.specs.Rules.{unless, nothing, value, prefix_rule, infix_rule, interval_rule, stack_rule, pick_rule, pick_two_rule, measure_rule, cast_rule, resize_rule, declare_rule, assign_rule, store_rule, store_two_rule, return_rule, each_rule, condition_rule, make_rule, start_rule, change_rule, turn_rule, typed}
 use Rattle.types.specs.Typings.{flat, is}
 use Rattle.checker.specs.Blocks.{all, start_operand, make_operands, change_operands, turn_operands, operands}

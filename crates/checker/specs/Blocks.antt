@@ -1,5 +1,5 @@
 -- What earlier rows mean for a row: operands, open blocks, variables in scope, jumps.
-use Rattle.std.specs.Prelude.{ℕ, zero, suc, Bool, true, false, cond, not, ◌&&◌, ◌||◌, List, [], ◌∷◌, length, is_some, Some, None, Option, ◌==◌, nat_lt, slice_index_or}
+use Rattle.std.specs.Prelude.{ℕ, zero, suc, Bool, true, false, not, ◌&&◌, ◌||◌, List, [], ◌∷◌, length, is_some, Some, None, Option, ◌==◌, nat_lt, slice_index_or}
 use Rattle.std.specs.List.{find}
 use Rattle.types.specs.declared.kinds.Kind.TheVariants.{Integer}
 use Rattle.types.specs.declared.typing.Typing.{Typing}

@@ -7,7 +7,7 @@ use Rattle.types.specs.declared.kinds.Kind.TheVariants.{Boolean, Character, Inte
 use Rattle.types.specs.declared.kinds.Shape.TheVariants.{Scalar, Vector, Interval}
 use Rattle.types.specs.declared.typing.Typing.{Typing}
 use Rattle.types.specs.Types.{same_shape, agree}
-use Rattle.types.specs.Typings.{typing, scalar, is, of, flat, alone, matches}
+use Rattle.types.specs.Typings.{scalar, is, of, flat, alone, matches}
 use Rattle.source.specs.Taking.{gone}
 use Rattle.source.specs.Waiting.{behind}
 use Rattle.source.specs.Words.{rest}

@@ -5,7 +5,7 @@ use Rattle.types.specs.declared.kinds.Kind.TheVariants.{Boolean, Character, Inte
 use Rattle.types.specs.declared.kinds.Shape.TheVariants.{Scalar, Vector, Interval}
 use Rattle.types.specs.declared.typing.Typing.{Typing}
 use Rattle.types.specs.Types.{same_shape}
-use Rattle.types.specs.Typings.{typing, is, of, flat, alone, matches}
+use Rattle.types.specs.Typings.{is, of, flat, alone, matches}
 use Rattle.source.specs.declared.state.ReadValue.{ReadValue}
 use Rattle.source.specs.Taking.{counted, gone}
 use Rattle.fault.specs.declared.causes.Cause.{Cause}
