@@ -1,5 +1,5 @@
 //! The tests of a row, and the fault of the first that fails.
-ghost use Rattle.std.specs.Prelude.{◌≡◌, ℕ, ◌*◌, true, false, IfOk, MatchResult};
+ghost use Rattle.std.specs.Prelude.{◌≡◌, ℕ, ◌*◌, true, IfOk};
 ghost use Rattle.meaning.specs.Plans.{fits};
 ghost use Rattle.meaning.specs.States.{layout_at};
 ghost use Rattle.meaning.specs.Values.{lawful, within};
@@ -10,6 +10,7 @@ use crate::lookup::layout_at;
 use crate::places::Place;
 use crate::slips::Slip;
 use fault::{Cause, Fault};
+use rules::need;
 
 impl Place {
     /// The first cell of row i.
@@ -45,17 +46,6 @@ impl Place {
         counted.is_none_or(|n| n <= usize::from(self.width)) && layout.is_within(self.width)
     }
 
-    /// The fault of this row at no element, where the fact does not hold.
-    fn need(self, holds: bool, cause: Cause) -> Result<(), Fault>
-        ensures { MatchResult result (λ _. holds ≡ true) (λ e. (holds ≡ false) × (e ≡ fault_at self cause 0)) }
-    {
-        if holds {
-            Ok(())
-        } else {
-            Err(self.fault(cause, 0))
-        }
-    }
-
     /// The layout, where every test passes: kinds and shapes have a rule, bounds are in order, what is counted and the layout
     /// are within the width, and sizes agree.
     pub fn guard(
@@ -69,10 +59,13 @@ impl Place {
         ensures is { result ≡ guards self ruled ordered counted layout agree }
         ensures within { IfOk result (λ f. within self.width f.r f.s ≡ true) }
     {
-        self.need(ruled, Cause::NoRule)?;
-        self.need(ordered, Cause::Disordered)?;
-        self.need(self.is_fitting(counted, layout), Cause::Beyond)?;
-        self.need(agree, Cause::SizesDiffer)?;
+        need(ruled, self.fault(Cause::NoRule, 0))?;
+        need(ordered, self.fault(Cause::Disordered, 0))?;
+        need(
+            self.is_fitting(counted, layout),
+            self.fault(Cause::Beyond, 0),
+        )?;
+        need(agree, self.fault(Cause::SizesDiffer, 0))?;
         Ok(layout)
     }
 }

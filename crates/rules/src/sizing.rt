@@ -8,8 +8,8 @@ use types::Typing;
 /// What is noted of a row: the type of the value or the variable that it makes, if it makes one.
 pub type Judged = Result<Option<Typing>, Refusal>;
 
-/// Refuses, where the fact does not hold.
-pub fn need(holds: bool, refusal: Refusal) -> Result<(), Refusal>
+/// The refusal, where the fact does not hold.
+pub fn need<E: Drop>(holds: bool, refusal: E) -> Result<(), E>
     ensures { MatchResult result (λ _. holds ≡ true) (λ e. (holds ≡ false) × (e ≡ refusal)) }
 {
     if holds { Ok(()) } else { Err(refusal) }
