@@ -1,7 +1,7 @@
 //! The table of cases on standard input.
 //!
 //! A line is `NAME: ROW; ROW; ..`, and a row is its code and its fields a, b, c, d, r, s and n, as many as are not 0.
-use crate::verdict::{head, verdict};
+use crate::verdict::{Refused, head, verdict};
 use sheet::Row;
 use std::alloc::Global;
 
@@ -43,8 +43,8 @@ fn try_case(rt: &HostRuntime, name: &str, text: &str) -> anyhow::Result<()> {
     }
     let count = rows.len();
     match verdict(rt, head(8), rows.as_slice(), count)? {
-        (0, _) => println!(rt; "{name}: accepted")?,
-        (number, row) => println!(rt; "{name}: {number} at row {row}")?,
+        Ok(_) => println!(rt; "{name}: accepted")?,
+        Err(Refused { number, row }) => println!(rt; "{name}: {number} at row {row}")?,
     }
     Ok(())
 }

@@ -1,19 +1,7 @@
 //! The largest sheets, and sheets one past them.
-use crate::verdict::{head, row, verdict};
+use crate::verdict::{Refused, head, literal, row, verdict};
 use sheet::{HeadNumbers, Row};
 use std::alloc::{AllocError, Global};
-
-const ZERO: Row = Row {
-    code: 1,
-    line: 0,
-    a: 3,
-    b: 0,
-    c: 0,
-    d: 0,
-    r: 0,
-    s: 0,
-    n: 0,
-};
 
 /// Loops one in the other, and a return after them.
 fn nested(heap: Global, depth: u16) -> Result<Vec<Row>, AllocError> {
@@ -25,7 +13,7 @@ fn nested(heap: Global, depth: u16) -> Result<Vec<Row>, AllocError> {
     for i in 0..depth {
         rows.push(row(31, 0, depth - 1 - i, 0))?;
     }
-    rows.push(ZERO)?;
+    rows.push(literal(0))?;
     rows.push(row(34, 2 * depth, 0, 0))?;
     Ok(rows)
 }
@@ -34,7 +22,7 @@ fn nested(heap: Global, depth: u16) -> Result<Vec<Row>, AllocError> {
 fn long(heap: Global, count: usize) -> Result<Vec<Row>, AllocError> {
     let mut rows = Vec::new(heap);
     for _ in 1..count {
-        rows.push(ZERO)?;
+        rows.push(literal(0))?;
     }
     rows.push(row(34, 0, 0, 0))?;
     Ok(rows)
@@ -47,8 +35,10 @@ fn show(
     rows: &[Row],
     space: usize,
 ) -> anyhow::Result<()> {
-    let (number, row) = verdict(rt, head, rows, space)?;
-    println!(rt; "{name}: {number} at {row}")?;
+    match verdict(rt, head, rows, space)? {
+        Ok(lines) => println!(rt; "{name}: 0 at {lines}")?,
+        Err(Refused { number, row }) => println!(rt; "{name}: {number} at {row}")?,
+    }
     Ok(())
 }
 

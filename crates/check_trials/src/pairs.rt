@@ -1,51 +1,32 @@
 //! Each infix operator on every pair of kinds and shapes.
-use crate::verdict::{head, row, verdict};
+use crate::verdict::{Refused, head, literal, row, verdict};
 use sheet::Row;
+use types::{Kind, Shape};
 
 /// Kind, shape, r and s of a variable: every kind and shape, and sizes that differ.
-const TYPES: [(u16, u16, u16, u16); 14] = [
-    (1, 1, 1, 1),
-    (1, 2, 1, 2),
-    (1, 3, 2, 2),
-    (2, 1, 1, 1),
-    (2, 2, 1, 2),
-    (2, 3, 2, 2),
-    (3, 1, 1, 1),
-    (3, 2, 1, 2),
-    (3, 2, 1, 3),
-    (3, 2, 1, 8),
-    (3, 3, 2, 2),
-    (3, 3, 2, 4),
-    (3, 3, 4, 2),
-    (3, 4, 1, 2),
+const TYPES: [(Kind, Shape, u16, u16); 14] = [
+    (Kind::Boolean, Shape::Scalar, 1, 1),
+    (Kind::Boolean, Shape::Vector, 1, 2),
+    (Kind::Boolean, Shape::Matrix, 2, 2),
+    (Kind::Character, Shape::Scalar, 1, 1),
+    (Kind::Character, Shape::Vector, 1, 2),
+    (Kind::Character, Shape::Matrix, 2, 2),
+    (Kind::Integer, Shape::Scalar, 1, 1),
+    (Kind::Integer, Shape::Vector, 1, 2),
+    (Kind::Integer, Shape::Vector, 1, 3),
+    (Kind::Integer, Shape::Vector, 1, 8),
+    (Kind::Integer, Shape::Matrix, 2, 2),
+    (Kind::Integer, Shape::Matrix, 2, 4),
+    (Kind::Integer, Shape::Matrix, 4, 2),
+    (Kind::Integer, Shape::Interval, 1, 2),
 ];
 
-fn declare((kind, shape, r, s): (u16, u16, u16, u16)) -> Row {
-    Row {
-        code: 20,
-        line: 0,
-        a: 65535,
-        b: shape,
-        c: kind,
-        d: 0,
-        r,
-        s,
-        n: 0,
-    }
-}
-
-fn literal(n: i32) -> Row {
-    Row {
-        code: 1,
-        line: 0,
-        a: 3,
-        b: 0,
-        c: 0,
-        d: 0,
-        r: 0,
-        s: 0,
-        n,
-    }
+/// The declaration of a variable of this type, with nulls.
+fn declare((kind, shape, r, s): (Kind, Shape, u16, u16)) -> Row {
+    let mut declare = row(20, 65535, u16::from(shape), u16::from(kind));
+    declare.r = r;
+    declare.s = s;
+    declare
 }
 
 /// A line for each left type, a mark for each right type: a dot where the pair is accepted, else the last digit.
@@ -62,10 +43,9 @@ fn try_infix(rt: &HostRuntime, operator: u16) -> anyhow::Result<()> {
                 literal(0),
                 row(34, 5, 0, 0),
             ];
-            let (number, _) = verdict(rt, head(8), &rows, 7)?;
-            match number {
-                0 => print!(rt; ".")?,
-                _ => print!(rt; "{}", number % 10)?,
+            match verdict(rt, head(8), &rows, 7)? {
+                Ok(_) => print!(rt; ".")?,
+                Err(Refused { number, .. }) => print!(rt; "{}", number % 10)?,
             }
         }
         println!(rt; "")?;

@@ -1,5 +1,5 @@
 //! Each code with one field more than it names.
-use crate::verdict::{head, verdict};
+use crate::verdict::{Refused, head, row, verdict};
 use sheet::Row;
 
 /// A row of this code whose own fields keep the rules, but for what they name.
@@ -16,60 +16,35 @@ fn lawful(code: u16) -> Row {
         20 => 1,
         _ => 0,
     };
-    Row {
-        code,
-        line: 7,
-        a: kind,
-        b: fixed,
-        c: operator,
-        d: 0,
-        r: fixed,
-        s: fixed,
-        n: 0,
-    }
+    let mut lawful = row(code, kind, fixed, operator);
+    lawful.line = 7;
+    lawful.r = fixed;
+    lawful.s = fixed;
+    lawful
 }
 
 /// The row with a 1 in one of its fields.
-fn with_one(row: Row, field: u8) -> Row {
-    let Row {
-        code,
-        line,
-        mut a,
-        mut b,
-        mut c,
-        mut d,
-        mut r,
-        mut s,
-        mut n,
-    } = row;
+fn with_one(mut row: Row, field: u8) -> Row {
     match field {
-        0 => a = 1,
-        1 => b = 1,
-        2 => c = 1,
-        3 => d = 1,
-        4 => r = 1,
-        5 => s = 1,
-        _ => n = 1,
+        0 => row.a = 1,
+        1 => row.b = 1,
+        2 => row.c = 1,
+        3 => row.d = 1,
+        4 => row.r = 1,
+        5 => row.s = 1,
+        _ => row.n = 1,
     }
-    Row {
-        code,
-        line,
-        a,
-        b,
-        c,
-        d,
-        r,
-        s,
-        n,
-    }
+    row
 }
 
 /// For each field a 5 where a 1 in it is refused with 5, and a dash where it is not.
 fn try_code(rt: &HostRuntime, code: u16) -> anyhow::Result<()> {
     print!(rt; "code {code}: ")?;
     for field in 0..7u8 {
-        let (number, _) = verdict(rt, head(8), &[with_one(lawful(code), field)], 1)?;
-        print!(rt; "{}", if number == 5 { "5" } else { "-" })?;
+        match verdict(rt, head(8), &[with_one(lawful(code), field)], 1)? {
+            Err(Refused { number: 5, .. }) => print!(rt; "5")?,
+            _ => print!(rt; "-")?,
+        }
     }
     println!(rt; "")?;
     Ok(())

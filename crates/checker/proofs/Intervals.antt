@@ -15,9 +15,6 @@ use Rattle.checker.specs.Judge.{no_row, Accepted}
 use Rattle.checker.proofs.Passes.{Passed, passes}
 use Rattle.checker.proofs.Checks.{blocks_same}
 
-pub never : false ≡ true → ⊥
-never h = let z : ◌≡◌ {A = ℕ} 0 1 = cc in omega arith
-
 -- ---- stacks
 -- falling, from below p
 abbrev pub Falling : ℕ → List ℕ → Type 0
@@ -33,7 +30,7 @@ falling_outer p [] h = tt
 falling_outer p (c ∷ cs) h = let l = h.0 in falling_wider c p cs (omega arith) h.1
 
 pub falling_member : (p c : ℕ) (cs : List ℕ) → Falling p cs → member c cs ≡ true → c < p
-falling_member p c [] f h = absurd (never h)
+falling_member p c [] f h = cc
 falling_member p c (x ∷ xs) f h =
     let l = f.0 in
     ⊎_elim (λ e. let same = eqb-true c x e in omega arith) (λ m. let less = falling_member x c xs f.1 m in omega arith) (or_cases (eqb c x) (member c xs) h)
@@ -67,14 +64,14 @@ turned_opens (control.If a b) p cs h = or_left (eqb p p) (member p cs) (eq-eqb p
 turned_opens (control.Else b) p cs h = or_left (eqb p p) (member p (outer cs)) (eq-eqb p p refl)
 turned_opens (control.Loop b) p cs h = or_left (eqb p p) (member p cs) (eq-eqb p p refl)
 turned_opens (control.Each a b) p cs h = or_left (eqb p p) (member p cs) (eq-eqb p p refl)
-turned_opens (control.Test a) p cs h = absurd (never h)
-turned_opens control.Break p cs h = absurd (never h)
-turned_opens control.Continue p cs h = absurd (never h)
-turned_opens (control.End b) p cs h = absurd (never h)
+turned_opens (control.Test a) p cs h = cc
+turned_opens control.Break p cs h = cc
+turned_opens control.Continue p cs h = cc
+turned_opens (control.End b) p cs h = cc
 
 after_opens : (i : Instruction) (p : ℕ) (cs : List ℕ) → opener i ≡ true → member p (after i p cs) ≡ true
-after_opens (Expression e) p cs h = absurd (never h)
-after_opens (Change s) p cs h = absurd (never h)
+after_opens (Expression e) p cs h = cc
+after_opens (Change s) p cs h = cc
 after_opens (Control t) p cs h = turned_opens t p cs h
 
 -- what is open after a row is the row itself, an opener, or was open before
@@ -97,7 +94,7 @@ after_member (Change s) c p cs h = inr h
 after_member (Control t) c p cs h = turned_member t c p cs h
 
 pub blocks_open : (lines : List Line) (c p : ℕ) → member c (blocks lines p) ≡ true → opener (at lines c).instruction ≡ true
-blocks_open lines c zero h = absurd (never h)
+blocks_open lines c zero h = cc
 blocks_open lines c (suc p) h =
     ⊎_elim (λ here. ap (λ (x : ℕ). opener (at lines x).instruction) here.0 ∙ here.1) (λ m. blocks_open lines c p m)
     (after_member (at lines p).instruction c p (blocks lines p) h)
@@ -110,7 +107,7 @@ pub record Removed (lines : List Line) (p c : ℕ) (cs : List ℕ) (i : Instruct
 
 stays_turn : (lines : List Line) (p c : ℕ) (cs : List ℕ) (t : Turn) → turn_nests lines p cs t ≡ true → member c cs ≡ true → (member c (turned t p cs) ≡ true) ⊎ Removed lines p c cs (Control t)
 stays_turn lines p c cs (control.If a b) k h = inl (or_right (eqb c p) (member c cs) h)
-stays_turn lines p c [] (control.Else b) k h = absurd (never h)
+stays_turn lines p c [] (control.Else b) k h = cc
 stays_turn lines p c (x ∷ xs) (control.Else b) k h =
     ⊎_elim
     (λ e.
@@ -123,7 +120,7 @@ stays_turn lines p c cs (control.Each a b) k h = inl (or_right (eqb c p) (member
 stays_turn lines p c cs (control.Test a) k h = inl h
 stays_turn lines p c cs control.Break k h = inl h
 stays_turn lines p c cs control.Continue k h = inl h
-stays_turn lines p c [] (control.End b) k h = absurd (never h)
+stays_turn lines p c [] (control.End b) k h = cc
 stays_turn lines p c (x ∷ xs) (control.End b) k h =
     ⊎_elim
     (λ e.
@@ -138,22 +135,22 @@ stays lines p c cs last (Change s) k h = inl h
 stays lines p c cs last (Control t) k h = stays_turn lines p c cs t (and_parts (not last) (turn_nests lines p cs t) k).1 h
 
 none_left : (cs : List ℕ) (c : ℕ) → length cs ≡ 0 → member c cs ≡ true → ⊥
-none_left [] c e h = never h
+none_left [] c e h = cc
 none_left (x ∷ xs) c e h = omega arith
 
 last_bare : (lines : List Line) (p : ℕ) (cs : List ℕ) (last : Bool) (i : Instruction) → last ≡ true → nests lines p cs last i ≡ true → (length cs ≡ 0) × (opener i ≡ false)
-last_bare lines p cs true (Expression e) l k = absurd (never k)
+last_bare lines p cs true (Expression e) l k = cc
 last_bare lines p cs true (Change s) l k = (eqb-true (length cs) 0 (and_parts (returns s) (eqb (length cs) 0) k).1, refl)
-last_bare lines p cs true (Control t) l k = absurd (never k)
-last_bare lines p cs false (Expression e) l k = absurd (never l)
-last_bare lines p cs false (Change s) l k = absurd (never l)
-last_bare lines p cs false (Control t) l k = absurd (never l)
+last_bare lines p cs true (Control t) l k = cc
+last_bare lines p cs false (Expression e) l k = cc
+last_bare lines p cs false (Change s) l k = cc
+last_bare lines p cs false (Control t) l k = cc
 
 some_same : (x y : ℕ) → ◌≡◌ {A = Option ℕ} (Some x) (Some y) → x ≡ y
 some_same x y h = cc
 
 top_most : (p c b : ℕ) (cs : List ℕ) → Falling p cs → innermost cs ≡ Some c → member b cs ≡ true → b ≤ c
-top_most p c b [] f e h = absurd (never h)
+top_most p c b [] f e h = cc
 top_most p c b (x ∷ xs) f e h =
     let same = some_same x c e in
     ⊎_elim (λ q. let here = eqb-true b x q in omega arith) (λ m. let less = falling_member x b xs f.1 m in omega arith) (or_cases (eqb b x) (member b xs) h)
@@ -209,7 +206,7 @@ module _ (w : ℕ) (result : Typing) (rows : List Row) (lines : List Line) (ok :
   pub open_next : (b : ℕ) → b < length rows → opener (at lines b).instruction ≡ true → (b + 1 < length rows) × (member b (blocks lines (suc b)) ≡ true)
   open_next b lt o = (
     ⊎_elim (λ less. less)
-        (λ ge. absurd (never (sym (at_last b (omega arith)).1 ∙ o)))
+        (λ ge. let shut = (at_last b (omega arith)).1 in cc)
         (cases_lt (b + 1) (length rows)),
     after_opens (at lines b).instruction b (blocks lines b) o,
   )
@@ -255,9 +252,9 @@ module _ (w : ℕ) (result : Typing) (rows : List Row) (lines : List Line) (ok :
   -- ---- what the rows of a lawful sheet can read, by intervals
   -- a variable in scope: each block that holds its row holds row p
   scope_block : (v p c : ℕ) (o : Option ℕ) (cs : List ℕ) → v < p → p < length rows → cs ≡ blocks lines v → o ≡ innermost cs → still_in o (blocks lines p) ≡ true → member c cs ≡ true → p ≤ closer (at lines c).instruction
-  scope_block v p c None [] vp lt is e k h = absurd (never h)
-  scope_block v p c None (x ∷ xs) vp lt is e k h = absurd (let z : ◌≡◌ {A = ℕ} 0 1 = cc in omega arith)
-  scope_block v p c (Some d) [] vp lt is e k h = absurd (never h)
+  scope_block v p c None [] vp lt is e k h = cc
+  scope_block v p c None (x ∷ xs) vp lt is e k h = cc
+  scope_block v p c (Some d) [] vp lt is e k h = cc
   scope_block v p c (Some d) (x ∷ xs) vp lt is e k h =
       let same = some_same d x e in
       let held : member x (blocks lines p) ≡ true = subst (λ (y : ℕ). member y (blocks lines p) ≡ true) same k in
@@ -308,7 +305,7 @@ module _ (w : ℕ) (result : Typing) (rows : List Row) (lines : List Line) (ok :
       (record { before = vp; upto = (closes p v lt held).later }, ap (λ (x : Line). ranges x.instruction) (sym (front p v vp)) ∙ both.0)
 
   among : (ls : List Line) (c : ℕ) (cs : List ℕ) → loop_among ls cs ≡ Some c → (member c cs ≡ true) × (loops (at ls c).instruction ≡ true)
-  among ls c [] h = absurd (let z : ◌≡◌ {A = ℕ} 0 1 = cc in omega arith)
+  among ls c [] h = cc
   among ls c (x ∷ xs) h = pick (loops (at ls x).instruction) refl h (among ls c xs)
     where
       pick : (b : Bool) → loops (at ls x).instruction ≡ b → cond b (Some x) (loop_among ls xs) ≡ Some c → (loop_among ls xs ≡ Some c → (member c xs ≡ true) × (loops (at ls c).instruction ≡ true)) → (member c (x ∷ xs) ≡ true) × (loops (at ls c).instruction ≡ true)

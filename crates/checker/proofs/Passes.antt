@@ -1,5 +1,5 @@
 -- What a row that check passes is known to keep.
-use Rattle.std.proofs.Common.{◌≡◌, ℕ, Bool, true, false, not, List, Some, None, Ok, Err, Option, Result, refl, subst, arith}
+use Rattle.std.proofs.Common.{◌≡◌, ℕ, Bool, true, false, not, List, Some, None, Ok, Err, Option, Result, refl, subst}
 use Rattle.std.proofs.lemmas.Bool.{and_parts}
 use Rattle.types.specs.declared.typing.Typing.{Typing}
 use Rattle.rules.specs.declared.refusal.Refusal.{Refusal}
@@ -15,7 +15,7 @@ use Rattle.checker.specs.Judge.{lined, ruled, judged_as}
 use Rattle.checker.specs.Stack.{turn_fits, fits}
 
 no_ok : {A : Type 0} (e : Refusal) (n : A) → ◌≡◌ {A = Result A Refusal} (Err e) (Ok n) → ⊥
-no_ok e n h = let z : ◌≡◌ {A = ℕ} 0 1 = cc in omega arith
+no_ok e n h = cc
 
 pub unless_ok : (b : Bool) (e : Refusal) (rest : Judged) (n : Option Typing) → unless b e rest ≡ Ok n → (b ≡ true) × (rest ≡ Ok n)
 unless_ok true e rest n h = (refl, h)

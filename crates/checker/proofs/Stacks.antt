@@ -1,38 +1,17 @@
--- A stack in the front of an array.
-use Rattle.std.proofs.Common.{◌≡◌, ℕ, ◌+◌, ◌-◌, ◌<◌, ◌≤◌, List, [], ◌∷◌, reverse, length, get_or, take, set, ap, ◌∙◌, arith}
-use Rattle.std.proofs.lemmas.List.{length-take-le, length-reverse, take_more, take_more_set, reverse-append}
-use Rattle.checker.specs.declared.opened.Blocks.{Blocks}
-use Rattle.checker.specs.Blocks.{outer}
-use Rattle.checker.specs.Stack.{open_rows}
+-- A stack in a list, whose top is last.
+use Rattle.std.proofs.Common.{◌≡◌, ℕ, List, [], ◌∷◌, reverse, ◌==◌, ◌||◌, refl, ◌∙◌, arith}
+use Rattle.std.specs.List.{list_any}
+use Rattle.std.proofs.lemmas.Bool.Decides.{nat_tests}
+use Rattle.std.proofs.lemmas.List.Sorted.{list_any-IsPermutation, IsPermutation-reverse}
+use Rattle.checker.specs.Blocks.{member}
 
-abbrev pub held : ℕ → List ℕ → List ℕ
-held k xs = reverse (take k xs)
+-- std's test asks whether an element is v, and the definition whether v is an element
+member_any : (v : ℕ) (cs : List ℕ) → list_any (λ c. c == v) cs ≡ member v cs
+member_any v [] = refl
+member_any v (c ∷ cs) =
+    let e = member_any v cs in
+    let same : (c == v) ≡ (v == c) = grind (arith, nat_tests) in
+    λ i. same i || e i
 
-pub held_length : (k : ℕ) (xs : List ℕ) → k ≤ length xs → length (held k xs) ≡ k
-held_length k xs le = length-reverse (take k xs) ∙ length-take-le k xs le
-
-pub held_enter : (k : ℕ) (xs : List ℕ) (p : ℕ) → k < length xs → held (k + 1) (set xs k p) ≡ p ∷ held k xs
-held_enter k xs p lt = ap reverse (take_more_set xs k p lt) ∙ reverse-append (take k xs) (p ∷ [])
-
-pub held_top : (k : ℕ) (xs : List ℕ) → 0 < k → k ≤ length xs → held k xs ≡ get_or xs (k - 1) 0 ∷ held (k - 1) xs
-held_top k xs some le =
-    let e : k ≡ (k - 1) + 1 = omega arith in
-    ap (λ (n : ℕ). held n xs) e ∙ ap reverse (take_more xs (k - 1) 0 (omega arith)) ∙ reverse-append (take (k - 1) xs) (get_or xs (k - 1) 0 ∷ [])
-
-pub room_left : (b : Blocks) → length (open_rows b) < 32 → b.depth < 32
-room_left b h =
-    let few = b.few in
-    let whole = b.whole in
-    let e = held_length b.depth b.rows (omega arith) in
-    omega arith
-
-pub held_few : (b : Blocks) → length (open_rows b) ≤ 32
-held_few b =
-    let few = b.few in
-    let whole = b.whole in
-    let e = held_length b.depth b.rows (omega arith) in
-    omega arith
-
-pub outer_few : (cs : List ℕ) → length cs ≤ 32 → length (outer cs) < 32
-outer_few [] h = omega arith
-outer_few (c ∷ cs) h = omega arith
+pub held_any : (v : ℕ) (xs : List ℕ) → list_any (λ c. c == v) xs ≡ member v (reverse xs)
+held_any v xs = list_any-IsPermutation (λ c. c == v) xs (reverse xs) (IsPermutation-reverse xs) ∙ member_any v (reverse xs)

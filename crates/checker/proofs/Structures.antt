@@ -20,7 +20,7 @@ use Rattle.checker.proofs.Near.{near_tells}
 use Rattle.checker.proofs.Passes.{Passed}
 use Rattle.checker.proofs.Typings.{make_names, change_names, names, typed_same}
 use Rattle.checker.proofs.Intervals as blocked
-use Rattle.checker.proofs.Intervals.{never, falling_member, blocks_falling, blocks_open, Falling}
+use Rattle.checker.proofs.Intervals.{falling_member, blocks_falling, blocks_open, Falling}
 
 below_same : (f g : ℕ → Bool) (p : ℕ) → ((i : ℕ) → i < p → f i ≡ g i) → below f p ≡ below g p
 below_same f g zero h = refl
@@ -51,7 +51,7 @@ make_before ls p cs f (make.Resize a r s) h = refl
 make_before ls p cs f make.State h = refl
 
 change_before : (ls : List Line) (p : ℕ) (cs : List ℕ) (s : Changes) → change_scoped ls p cs s ≡ true → all (λ v. ltb v p) (change_names s) ≡ true
-change_before ls p cs (change.Declare k x r s v) h = refl
+change_before ls p cs (change.Declare t v) h = refl
 change_before ls p cs (change.Assign v a) h = before ls p cs v h
 change_before ls p cs (change.Store v b c) h = before ls p cs v h
 change_before ls p cs (change.StoreTwo v b c d) h = before ls p cs v h
@@ -65,23 +65,23 @@ names_before ls p cs f (Change s) h = change_before ls p cs s h
 names_before ls p cs f (Control t) h = refl
 
 some_of : (o : Option ℕ) → is_some o ≡ true → (b : ℕ) × (o ≡ Some b)
-some_of None h = absurd (never h)
+some_of None h = cc
 some_of (Some b) h = (b, refl)
 
 closed_by : (ls : List Line) (p b : ℕ) (cs : List ℕ) → closes_block ls p b cs ≡ true → (member b cs ≡ true) × (closer (at ls b).instruction ≡ p)
-closed_by ls p b [] h = absurd (never h)
+closed_by ls p b [] h = cc
 closed_by ls p b (c ∷ cs) h =
     let both = and_parts (eqb b c) (eqb (closer (at ls c).instruction) p) h in
     let same = eqb-true b c both.0 in
     (or_left (eqb b c) (member b cs) both.0, ap (λ (x : ℕ). closer (at ls x).instruction) same ∙ eqb-true (closer (at ls c).instruction) p both.1)
 
 last_finishes : (ls : List Line) (p : ℕ) (cs : List ℕ) (last : Bool) (i : Instruction) → last ≡ true → nests ls p cs last i ≡ true → finishes i ≡ true
-last_finishes ls p cs true (Expression e) l k = absurd (never k)
+last_finishes ls p cs true (Expression e) l k = cc
 last_finishes ls p cs true (Change s) l k = (and_parts (returns s) (eqb (length cs) 0) k).0
-last_finishes ls p cs true (Control t) l k = absurd (never k)
-last_finishes ls p cs false (Expression e) l k = absurd (never l)
-last_finishes ls p cs false (Change s) l k = absurd (never l)
-last_finishes ls p cs false (Control t) l k = absurd (never l)
+last_finishes ls p cs true (Control t) l k = cc
+last_finishes ls p cs false (Expression e) l k = cc
+last_finishes ls p cs false (Change s) l k = cc
+last_finishes ls p cs false (Control t) l k = cc
 
 module _ (w : ℕ) (result : Typing) (rows : List Row) (lines : List Line) (ok : Accepted w result rows lines) where
   abbrev upto : ℕ → List Line

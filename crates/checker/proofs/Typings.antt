@@ -1,11 +1,9 @@
 -- The typing of a row follows from the typings of the rows before it.
-use Rattle.std.proofs.Common.{◌≡◌, ℕ, Bool, true, List, [], ◌∷◌, refl}
+use Rattle.std.proofs.Common.{◌≡◌, ℕ, Bool, true, List, [], ◌∷◌, Option, Some, None, refl}
 use Rattle.std.proofs.lemmas.Bool.{and_parts}
 use Rattle.types.specs.declared.typing.Typing.{Typing}
 use Rattle.rules.specs.declared.refusal.Refusal.TheVariants.{Unfit}
 use Rattle.types.specs.declared.kinds.Shape.TheVariants.{Scalar}
-use Rattle.instruction.specs.declared.instructions.Start.{Start}
-use Rattle.instruction.specs.declared.instructions.Start.TheVariants.{Nulls, Value}
 use Rattle.instruction.specs.declared.instructions.Expression.{Expression as Make}
 use Rattle.instruction.specs.declared.instructions.Expression.TheVariants as make
 use Rattle.instruction.specs.declared.instructions.Change.{Change as Changes}
@@ -14,7 +12,6 @@ use Rattle.instruction.specs.declared.instructions.Control.{Control as Turn}
 use Rattle.instruction.specs.declared.instructions.Control.TheVariants as control
 use Rattle.instruction.specs.declared.instructions.Instruction.{Instruction}
 use Rattle.instruction.specs.declared.instructions.Instruction.TheVariants.{Expression, Change, Control}
-use Rattle.types.specs.Typings.{typing}
 use Rattle.rules.specs.Rules.{unless, nothing, value, prefix_rule, infix_rule, interval_rule, stack_rule, pick_rule, pick_two_rule, measure_rule, cast_rule, resize_rule, declare_rule, assign_rule, store_rule, store_two_rule, return_rule, each_rule, condition_rule, make_rule, start_rule, change_rule, turn_rule, typed}
 use Rattle.types.specs.Typings.{flat, is}
 use Rattle.checker.specs.Blocks.{all, start_operand, make_operands, change_operands, turn_operands, operands}
@@ -36,7 +33,7 @@ make_names (make.Resize a r s) = []
 make_names make.State = []
 
 abbrev pub change_names : Changes → List ℕ
-change_names (change.Declare k x r s v) = []
+change_names (change.Declare t v) = []
 change_names (change.Assign v a) = v ∷ []
 change_names (change.Store v b c) = v ∷ []
 change_names (change.StoreTwo v b c d) = v ∷ []
@@ -83,12 +80,12 @@ module _ (w : ℕ) (result : Typing) (T T' : ℕ → Typing) (f g : ℕ → Bool
   make_same (make.Resize a r s) h n = let x = one a [] h in λ i. resize_rule w r s (x i)
   make_same make.State h n = refl
 
-  start_same : (t : Typing) (v : Start) → all f (start_operand v) ≡ true → start_rule w result T t v ≡ start_rule w result T' t v
-  start_same t Nulls h = refl
-  start_same t (Value a) h = let x = one a [] h in λ i. declare_rule w t (x i)
+  start_same : (t : Typing) (v : Option ℕ) → all f (start_operand v) ≡ true → start_rule w result T t v ≡ start_rule w result T' t v
+  start_same t None h = refl
+  start_same t (Some a) h = let x = one a [] h in λ i. declare_rule w t (x i)
 
   change_same : (s : Changes) → all f (change_operands s) ≡ true → all g (change_names s) ≡ true → change_rule w result T s ≡ change_rule w result T' s
-  change_same (change.Declare k x r s v) h n = start_same (typing k x r s) v h
+  change_same (change.Declare t v) h n = start_same t v h
   change_same (change.Assign v a) h n = let x = var v [] n in let y = one a [] h in λ i. assign_rule (x i) (y i)
   change_same (change.Store v b c) h n = let x = var v [] n in let y = one b (c ∷ []) h in let z = two b c [] h in λ i. store_rule (x i) (y i) (z i)
   change_same (change.StoreTwo v b c d) h n = let x = var v [] n in let y = one b (c ∷ d ∷ []) h in let z = two b c (d ∷ []) h in let u = three b c d [] h in λ i. store_two_rule (x i) (y i) (z i) (u i)

@@ -1,10 +1,9 @@
 -- What earlier rows mean for a row: operands, open blocks, variables in scope, jumps.
-use Rattle.std.specs.Prelude.{ℕ, zero, suc, Bool, true, false, cond, not, ◌&&◌, ◌||◌, List, [], ◌∷◌, length, is_some, Some, None, Option, ◌==◌, nat_lt, slice_index_or}
+use Rattle.std.specs.Prelude.{ℕ, zero, suc, Bool, true, false, not, ◌&&◌, ◌||◌, List, [], ◌∷◌, length, is_some, Some, None, Option, ◌==◌, nat_lt, slice_index_or}
+use Rattle.std.specs.List.{find}
 use Rattle.types.specs.declared.kinds.Kind.TheVariants.{Integer}
 use Rattle.types.specs.declared.typing.Typing.{Typing}
 use Rattle.checker.specs.declared.line.Line.{Line}
-use Rattle.instruction.specs.declared.instructions.Start.{Start}
-use Rattle.instruction.specs.declared.instructions.Start.TheVariants.{Nulls, Value}
 use Rattle.instruction.specs.declared.instructions.Expression.{Expression as Make}
 use Rattle.instruction.specs.declared.instructions.Expression.TheVariants as make
 use Rattle.instruction.specs.declared.instructions.Change.{Change as Changes}
@@ -36,9 +35,9 @@ makes (Change s) = false
 makes (Control t) = false
 
 -- ---- operands
-abbrev pub start_operand : Start → List ℕ
-start_operand Nulls = []
-start_operand (Value a) = a ∷ []
+abbrev pub start_operand : Option ℕ → List ℕ
+start_operand None = []
+start_operand (Some a) = a ∷ []
 
 abbrev pub make_operands : Make → List ℕ
 make_operands (make.Literal k n) = []
@@ -56,7 +55,7 @@ make_operands (make.Resize a r s) = a ∷ []
 make_operands make.State = []
 
 abbrev pub change_operands : Changes → List ℕ
-change_operands (change.Declare k x r s v) = start_operand v
+change_operands (change.Declare t v) = start_operand v
 change_operands (change.Assign v a) = a ∷ []
 change_operands (change.Store v b c) = b ∷ c ∷ []
 change_operands (change.StoreTwo v b c d) = b ∷ c ∷ d ∷ []
@@ -178,8 +177,7 @@ branches (Control t) = turn_branches t
 
 -- the innermost loop or each among open blocks
 abbrev pub loop_among : List Line → List ℕ → Option ℕ
-loop_among lines [] = None
-loop_among lines (c ∷ cs) = cond (loops (at lines c).instruction) (Some c) (loop_among lines cs)
+loop_among lines cs = find (λ c. loops (at lines c).instruction) cs
 
 -- row p may close the innermost block as an else does
 abbrev pub closes_if : List Line → ℕ → List ℕ → Bool
@@ -202,7 +200,7 @@ turn_nests lines p cs control.Continue = is_some (loop_among lines cs)
 turn_nests lines p cs (control.End b) = closes_block lines p b cs
 
 abbrev pub returns : Changes → Bool
-returns (change.Declare k x r s v) = false
+returns (change.Declare t v) = false
 returns (change.Assign v a) = false
 returns (change.Store v b c) = false
 returns (change.StoreTwo v b c d) = false
@@ -218,7 +216,7 @@ nests lines p cs last (Control t) = not last && turn_nests lines p cs t
 
 -- ---- scope
 abbrev pub change_declares : Changes → Bool
-change_declares (change.Declare k x r s v) = true
+change_declares (change.Declare t v) = true
 change_declares (change.Assign v a) = false
 change_declares (change.Store v b c) = false
 change_declares (change.StoreTwo v b c d) = false
@@ -276,7 +274,7 @@ make_scoped lines p cs (make.Resize a r s) = true
 make_scoped lines p cs make.State = true
 
 abbrev pub change_scoped : List Line → ℕ → List ℕ → Changes → Bool
-change_scoped lines p cs (change.Declare k x r s v) = true
+change_scoped lines p cs (change.Declare t v) = true
 change_scoped lines p cs (change.Assign v a) = in_scope lines p cs v
 change_scoped lines p cs (change.Store v b c) = in_scope lines p cs v
 change_scoped lines p cs (change.StoreTwo v b c d) = in_scope lines p cs v

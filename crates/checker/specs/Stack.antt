@@ -1,5 +1,5 @@
 -- The blocks that a stack holds.
-use Rattle.std.specs.Prelude.{ℕ, Bool, true, List, reverse, length, take, nat_lt}
+use Rattle.std.specs.Prelude.{ℕ, Bool, true, List, reverse, length, nat_lt}
 use Rattle.instruction.specs.declared.instructions.Control.{Control as Turn}
 use Rattle.instruction.specs.declared.instructions.Control.TheVariants as control
 use Rattle.instruction.specs.declared.instructions.Instruction.{Instruction}
@@ -8,7 +8,7 @@ use Rattle.checker.specs.declared.opened.Blocks.{Blocks}
 
 -- innermost first
 abbrev pub open_rows : Blocks → List ℕ
-open_rows b = reverse (take b.depth b.rows)
+open_rows b = reverse b.rows.items
 
 abbrev pub turn_fits : Turn → List ℕ → Bool
 turn_fits (control.If a b) cs = nat_lt (length cs) 32

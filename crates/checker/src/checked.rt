@@ -7,7 +7,7 @@ use crate::line::Line;
 use sheet::Draft;
 
 /// A draft whose every row keeps the rules, with a line for each row.
-#[derive(Drop)]
+#[derive(Debug, Drop)]
 pub struct CheckedSheet {
     pub(crate) draft: Draft,
     pub(crate) lines: Vec<Line>,

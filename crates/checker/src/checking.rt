@@ -6,15 +6,15 @@ ghost use Rattle.checker.specs.Judge.{Accepted, Faulty};
 ghost use Rattle.checker.specs.Sheets.{space_in, Accepts, Refuses};
 
 use crate::checked::CheckedSheet;
-use crate::judge::{is_expression, judge_row};
 use crate::line::Line;
 use crate::opened::Blocks;
+use crate::position::Position;
 use crate::refused::Refused;
 use crate::room::Room;
+use crate::says::is_expression;
 use instruction::Instruction;
 use rules::Refusal;
-use sheet::{Draft, Row};
-use types::Typing;
+use sheet::{Draft, Head, Row};
 
 /// From which row on only expression rows stand, after row p.
 fn next_start(i: Instruction, start: usize, p: usize) -> usize
@@ -24,40 +24,40 @@ fn next_start(i: Instruction, start: usize, p: usize) -> usize
     if is_expression(i) { start } else { p + 1 }
 }
 
+/// The first row that breaks a rule, and the rule.
+#[derive(Clone, Copy, Debug, PartialEq, Eq)]
+struct Broken {
+    refusal: Refusal,
+    row: usize,
+}
+
 /// The lines of the rows, or the first row that breaks a rule, and the lines of the rows before it.
-fn check_rows(
-    lines: &mut Vec<Line>,
-    width: u16,
-    result_type: Typing,
-    rows: &[Row],
-) -> Result<(), (Refusal, usize)>
+fn check_rows(lines: &mut Vec<Line>, head: Head, rows: &[Row]) -> Result<(), Broken>
     requires few { length rows.now ≤ 512 }
     requires bare { vec_len lines.old ≡ 0 }
     requires space { length rows.now ≤ vec_capacity lines.old }
-    ensures verdict { MatchResult result (λ _. Accepted width result_type rows.now lines.new.items) (λ e. Faulty width result_type rows.now lines.new.items e.0 e.1) }
+    ensures verdict { MatchResult result (λ _. Accepted head.width head.result rows.now lines.new.items) (λ e. Faulty head.width head.result rows.now lines.new.items e.refusal e.row) }
     ensures capacity { vec_capacity lines.new ≡ vec_capacity lines.old }
 {
     let mut blocks = Blocks::new();
     let mut start = 0;
-    for p in 0..rows.len() {
-        let last = p + 1 == rows.len();
-        match judge_row(
-            width,
-            result_type,
-            last,
-            lines.as_slice(),
-            p,
+    for (p, row) in rows.iter().enumerate() {
+        let position = Position {
+            head,
+            lines: lines.as_slice(),
+            blocks: &blocks,
+            row: p,
             start,
-            &blocks,
-            rows[p],
-        ) {
-            Err(e) => return Err((e, p)),
-            Ok(line) => {
-                blocks.advance(line.instruction, p as u16);
-                start = next_start(line.instruction, start, p);
-                lines.push_reserved(line);
-            }
-        }
+            is_last: p + 1 == rows.len(),
+        };
+        // The proof did not close with `map_err` and `?` here.
+        let line = match position.judge(*row) {
+            Err(refusal) => return Err(Broken { refusal, row: p }),
+            Ok(line) => line,
+        };
+        blocks.advance(line.instruction, p as u16);
+        start = next_start(line.instruction, start, p);
+        lines.push_reserved(line);
     }
     Ok(())
 }
@@ -88,13 +88,13 @@ pub fn check(draft: Draft, room: Room) -> Result<CheckedSheet, Refused>
     }
     let Room { mut lines } = room;
     lines.clear();
-    match check_rows(&mut lines, head.width, head.result, draft.rows()) {
+    match check_rows(&mut lines, head, draft.rows()) {
         Ok(()) => Ok(seal(draft, lines)),
-        Err((refusal, row)) => Err(Refused {
+        Err(broken) => Err(Refused {
             draft,
             room: Room { lines },
-            refusal,
-            row,
+            refusal: broken.refusal,
+            row: broken.row,
         }),
     }
 }

@@ -5,11 +5,15 @@ mod checked;
 mod checking;
 mod judge;
 mod line;
-mod lookup;
 mod memory;
+mod nesting;
 mod opened;
+mod operands;
+mod position;
 mod refused;
 mod room;
+mod says;
+mod scope;
 mod stack;
 mod structure;
 

@@ -3,7 +3,7 @@ use instruction::Instruction;
 use types::Typing;
 
 /// What a checked row says, and what is known of it.
-#[derive(Clone, Copy)]
+#[derive(Clone, Copy, Debug, PartialEq, Eq)]
 pub struct Line {
     pub instruction: Instruction,
     /// The type of the row's value, or of the variable that it makes, as far as it is known.

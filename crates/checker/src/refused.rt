@@ -5,7 +5,7 @@ use sheet::Draft;
 
 /// The draft and the room that check was brought, the refusal, and the row that breaks the rule: row 0 where
 /// the room is too short.
-#[derive(Drop)]
+#[derive(Debug, Drop)]
 pub struct Refused {
     pub draft: Draft,
     pub room: Room,

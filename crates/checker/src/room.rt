@@ -3,7 +3,7 @@ use crate::line::Line;
 
 /// Space for a line a row, allocated before it is needed. After a refused check it holds the lines of the
 /// rows before the one that was refused.
-#[derive(Drop)]
+#[derive(Debug, Drop)]
 pub struct Room {
     pub(crate) lines: Vec<Line>,
 }

@@ -1,9 +1,10 @@
 //! The blocks that are open at a row.
-ghost use Rattle.std.specs.Prelude.{◌≡◌, ◌<◌, ◌≤◌, true, [], ◌∷◌, length};
-ghost use Rattle.checker.specs.Blocks.{outer, turned, after, innermost as innermost_of, member, loop_among, closes_if, closes_block};
+ghost use Rattle.std.specs.Prelude.{◌≡◌, ◌<◌, true, [], ◌∷◌, length};
+ghost use Rattle.checker.specs.Blocks.{outer, turned, after, innermost as innermost_of, member};
 ghost use Rattle.checker.specs.Stack.{open_rows, turn_fits, fits};
 
 use crate::opened::Blocks;
+use arrayvec::ArrayVec;
 use instruction::{Control, Instruction};
 
 impl Blocks {
@@ -12,8 +13,7 @@ impl Blocks {
         ensures { open_rows result ≡ [] }
     {
         Blocks {
-            rows: [0; 32],
-            depth: 0,
+            rows: ArrayVec::new(),
         }
     }
 
@@ -21,7 +21,7 @@ impl Blocks {
     pub fn depth(&self) -> usize
         ensures { result ≡ length (open_rows self.now) }
     {
-        self.depth
+        self.rows.len()
     }
 
     /// Row `row` opens a block.
@@ -29,43 +29,28 @@ impl Blocks {
         requires { length (open_rows self.old) < 32 }
         ensures { open_rows self.new ≡ row ∷ open_rows self.old }
     {
-        let depth = self.depth;
-        self.rows[depth] = row;
-        self.depth = depth + 1;
+        self.rows.push(row);
     }
 
     /// The innermost block is closed, if one is open.
     pub fn leave(&mut self)
         ensures { open_rows self.new ≡ outer (open_rows self.old) }
     {
-        if self.depth > 0 {
-            self.depth -= 1;
-        }
+        self.rows.pop();
     }
 
     /// The opener of the innermost block.
     pub fn innermost(&self) -> Option<u16>
         ensures { result ≡ innermost_of (open_rows self.now) }
     {
-        if self.depth == 0 {
-            None
-        } else {
-            Some(self.rows[self.depth - 1])
-        }
+        self.rows.as_slice().last().copied()
     }
 
     /// Whether the block of this opener is open.
     pub fn contains(&self, row: u16) -> bool
         ensures { result ≡ member row (open_rows self.now) }
     {
-        let mut k = self.depth;
-        while k > 0 {
-            k -= 1;
-            if row == self.rows[k] {
-                return true;
-            }
-        }
-        false
+        self.rows.as_slice().contains(&row)
     }
 
     fn turn(&mut self, t: Control, p: u16)
@@ -73,13 +58,11 @@ impl Blocks {
         ensures { open_rows self.new ≡ turned t p (open_rows self.old) }
     {
         match t {
-            Control::If(_, _) => self.enter(p),
+            Control::If(..) | Control::Loop(_) | Control::Each(..) => self.enter(p),
             Control::Else(_) => {
                 self.leave();
                 self.enter(p);
             }
-            Control::Loop(_) => self.enter(p),
-            Control::Each(_, _) => self.enter(p),
             Control::Test(_) | Control::Break | Control::Continue => {}
             Control::End(_) => self.leave(),
         }
@@ -90,9 +73,8 @@ impl Blocks {
         requires { fits i (open_rows self.old) ≡ true }
         ensures { open_rows self.new ≡ after i p (open_rows self.old) }
     {
-        match i {
-            Instruction::Control(t) => self.turn(t, p),
-            _ => {}
+        if let Instruction::Control(t) = i {
+            self.turn(t, p);
         }
     }
 }

@@ -1,18 +1,17 @@
 -- What a row says by its own fields alone, or nothing where they break a rule: an unknown code, a number that
 -- names no kind, shape or operator, a literal outside its kind, a wrong fixed size, a stray field.
 use Rattle.std.specs.Prelude.{ℕ, Bool, true, false, cond, ℤ, pos, negsuc, Some, None, Option, ◌==◌, nat_le}
+use Rattle.std.specs.Option.{option_map}
 use Rattle.types.specs.declared.kinds.Kind.{Kind}
 use Rattle.types.specs.declared.kinds.Kind.TheVariants.{Boolean, Character, Integer}
 use Rattle.types.specs.declared.kinds.Shape.{Shape}
-use Rattle.types.specs.declared.kinds.Size.{Size}
-use Rattle.types.specs.Types.{kind_of, shape_of, written}
-use Rattle.types.specs.Typings.{type_fits}
+use Rattle.types.specs.Types.{Size, kind_of, shape_of, written}
+use Rattle.types.specs.Typings.{typing, type_fits}
 use Rattle.sheet.specs.declared.row.Row.{Row}
-use Rattle.arithmetic.specs.declared.operators.Prefix.{Prefix}
+use Rattle.instruction.specs.declared.instructions.Prefix.{Prefix}
 use Rattle.instruction.specs.declared.instructions.Infix.{Infix}
 use Rattle.instruction.specs.declared.instructions.Measure.{Measure as Asked}
-use Rattle.instruction.specs.declared.instructions.Start.{Start}
-use Rattle.instruction.specs.declared.instructions.Start.TheVariants.{Nulls, Value}
+use Rattle.instruction.specs.declared.instructions.Expression.{Expression as Make}
 use Rattle.instruction.specs.declared.instructions.Expression.TheVariants as make
 use Rattle.instruction.specs.declared.instructions.Change.TheVariants as change
 use Rattle.instruction.specs.declared.instructions.Control.TheVariants as control
@@ -29,60 +28,63 @@ literal_fits Character (pos n) = nat_le n 127
 literal_fits Character (negsuc n) = nat_le n 127
 literal_fits Integer z = true
 
--- a declaration without a value has nulls
-abbrev pub start_of : ℕ → Start
-start_of a = cond (a == 65535) Nulls (Value a)
+-- the row that a declaration names; one without a value has nulls
+abbrev pub start_of : ℕ → Option ℕ
+start_of a = cond (a == 65535) None (Some a)
 
 -- ---- the rows whose fields can fail
-abbrev pub literal : Option Kind → ℤ → Option Instruction
+abbrev pub literal : Option Kind → ℤ → Option Make
 literal None n = None
-literal (Some k) n = cond (literal_fits k n) (Some (Expression (make.Literal k n))) None
+literal (Some k) n = cond (literal_fits k n) (Some (make.Literal k n)) None
 
-abbrev pub empty_of : Option Kind → Option Instruction
+abbrev pub empty_of : Option Kind → Option Make
 empty_of None = None
-empty_of (Some k) = Some (Expression (make.Empty k))
+empty_of (Some k) = Some (make.Empty k)
 
-abbrev pub prefixed : Option Prefix → ℕ → Option Instruction
+abbrev pub prefixed : Option Prefix → ℕ → Option Make
 prefixed None a = None
-prefixed (Some o) a = Some (Expression (make.Prefix o a))
+prefixed (Some o) a = Some (make.Prefix o a)
 
-abbrev pub infixed : Option Infix → ℕ → ℕ → Option Instruction
+abbrev pub infixed : Option Infix → ℕ → ℕ → Option Make
 infixed None a b = None
-infixed (Some o) a b = Some (Expression (make.Infix o a b))
+infixed (Some o) a b = Some (make.Infix o a b)
 
-abbrev pub measured : Option Asked → ℕ → Option Instruction
+abbrev pub measured : Option Asked → ℕ → Option Make
 measured None a = None
-measured (Some m) a = Some (Expression (make.Measure m a))
+measured (Some m) a = Some (make.Measure m a)
 
-abbrev pub cast_to : Option Kind → ℕ → Option Instruction
+abbrev pub cast_to : Option Kind → ℕ → Option Make
 cast_to None a = None
-cast_to (Some k) a = Some (Expression (make.Cast k a))
+cast_to (Some k) a = Some (make.Cast k a)
 
-abbrev pub declared : Option Kind → Option Shape → Size → Size → Start → Option Instruction
+abbrev pub declared : Option Kind → Option Shape → Size → Size → Option ℕ → Option Instruction
 declared None x r s v = None
 declared (Some k) None r s v = None
-declared (Some k) (Some x) r s v = cond (type_fits k x r s) (Some (Change (change.Declare k x r s v))) None
+declared (Some k) (Some x) r s v = cond (type_fits k x r s) (Some (Change (change.Declare (typing k x r s) v))) None
+
+abbrev pub declared_by : Row → Option Instruction
+declared_by x = declared (kind_of x.c) (shape_of x.b) (written x.r) (written x.s) (start_of x.a)
 
 -- ---- by the code, stray fields aside
-abbrev pub expression_of : Row → Option Instruction
+abbrev pub expression_of : Row → Option Make
 expression_of x =
     cond (x.code == 1) (literal (kind_of x.a) x.n) (
     cond (x.code == 2) (empty_of (kind_of x.a)) (
-    cond (x.code == 3) (Some (Expression (make.Variable x.a))) (
+    cond (x.code == 3) (Some (make.Variable x.a)) (
     cond (x.code == 4) (prefixed (prefix_of x.c) x.a) (
     cond (x.code == 5) (infixed (infix_of x.c) x.a x.b) (
-    cond (x.code == 6) (Some (Expression (make.Interval x.a x.b))) (
-    cond (x.code == 7) (Some (Expression (make.Stack x.a x.b))) (
-    cond (x.code == 8) (Some (Expression (make.Pick x.a x.b))) (
-    cond (x.code == 9) (Some (Expression (make.PickTwo x.a x.b x.c))) (
+    cond (x.code == 6) (Some (make.Interval x.a x.b)) (
+    cond (x.code == 7) (Some (make.Stack x.a x.b)) (
+    cond (x.code == 8) (Some (make.Pick x.a x.b)) (
+    cond (x.code == 9) (Some (make.PickTwo x.a x.b x.c)) (
     cond (x.code == 10) (measured (measure_of x.c) x.a) (
     cond (x.code == 11) (cast_to (kind_of x.c) x.a) (
-    cond (x.code == 12) (Some (Expression (make.Resize x.a (written x.r) (written x.s)))) (
-    cond (x.code == 13) (Some (Expression make.State)) None))))))))))))
+    cond (x.code == 12) (Some (make.Resize x.a (written x.r) (written x.s))) (
+    cond (x.code == 13) (Some make.State) None))))))))))))
 
 abbrev pub statement_of : Row → Option Instruction
 statement_of x =
-    cond (x.code == 20) (declared (kind_of x.c) (shape_of x.b) (written x.r) (written x.s) (start_of x.a)) (
+    cond (x.code == 20) (declared_by x) (
     cond (x.code == 21) (Some (Change (change.Assign x.a x.b))) (
     cond (x.code == 22) (Some (Change (change.Store x.a x.b x.c))) (
     cond (x.code == 23) (Some (Change (change.StoreTwo x.a x.b x.c x.d))) (
@@ -100,4 +102,4 @@ statement_of x =
 
 -- what the row says
 abbrev pub form : Row → Option Instruction
-form x = cond (plain (fields_of x.code) x) (cond (nat_le x.code 13) (expression_of x) (statement_of x)) None
+form x = cond (plain (fields_of x.code) x) (cond (nat_le x.code 13) (option_map Expression (expression_of x)) (statement_of x)) None

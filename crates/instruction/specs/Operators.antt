@@ -1,7 +1,9 @@
 -- The operators by their numbers.
-use Rattle.std.specs.Prelude.{ℕ, cond, Some, None, Option, ◌==◌}
-use Rattle.arithmetic.specs.declared.operators.Prefix.{Prefix}
-use Rattle.arithmetic.specs.declared.operators.Prefix.TheVariants.{Minus, Not}
+use Rattle.std.specs.Prelude.{◌≡◌, ℕ, cond, Some, None, Option, Result, IfErr, ◌==◌}
+use Rattle.std.specs.Result.{result_ok}
+use Rattle.types.specs.declared.unknown.UnknownNumber.{UnknownNumber}
+use Rattle.instruction.specs.declared.instructions.Prefix.{Prefix}
+use Rattle.instruction.specs.declared.instructions.Prefix.TheVariants.{Minus, Not}
 use Rattle.arithmetic.specs.declared.integers.Arithmetic.TheVariants.{Add, Subtract, Multiply, Divide, Remainder, Power}
 use Rattle.arithmetic.specs.declared.truths.Order.TheVariants.{Less, Greater, AtMost, AtLeast}
 use Rattle.arithmetic.specs.declared.truths.Logic.TheVariants.{And, Or, Xor}
@@ -37,3 +39,8 @@ infix_of n =
 
 abbrev pub measure_of : ℕ → Option Asked
 measure_of n = cond (n == 1) (Some Length) (cond (n == 2) (Some Rows) (cond (n == 3) (Some Columns) (cond (n == 4) (Some Reverse) (cond (n == 5) (Some Single) None))))
+
+-- what reading a number answers: the operator that has it, or the number itself where none has
+pub record Reads {T : Type 0} (of : ℕ → Option T) (n : ℕ) (r : Result T UnknownNumber) : Type 0 where
+  pub value : result_ok r ≡ of n
+  pub told : IfErr r (λ e. e.0 ≡ n)

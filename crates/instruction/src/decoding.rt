@@ -1,13 +1,12 @@
 //! Reading a row's numbers: the rule that looks at one row alone.
-ghost use Rattle.std.specs.Prelude.{◌≡◌};
-ghost use Rattle.instruction.specs.Forms.{literal_fits, start_of, literal as literal_form, empty_of, prefixed, infixed, measured, cast_to, declared as declared_form, expression_of, statement_of, form};
+ghost use Rattle.std.specs.Prelude.{◌≡◌, Some};
+ghost use Rattle.instruction.specs.Forms.{literal_fits, start_of, literal as literal_form, declared_by, expression_of, statement_of, form};
 
 use crate::fields::{fields_of, is_plain};
-use crate::instructions::{Change, Control, Expression, Infix, Instruction, Measure, Start};
-use crate::operators::{infix_of, measure_of, prefix_of};
-use arithmetic::operators::Prefix;
+use crate::instructions::{Change, Control, Expression, Infix, Instruction, Measure, Prefix};
 use sheet::Row;
-use types::{Kind, Shape, Size, Typing};
+use types::sizes::size_from;
+use types::{Kind, Shape, Typing};
 
 fn is_literal(kind: Kind, n: i32) -> bool
     ensures { result ≡ literal_fits kind n }
@@ -19,124 +18,51 @@ fn is_literal(kind: Kind, n: i32) -> bool
     }
 }
 
-fn start_of(a: u16) -> Start
+fn literal(kind: Kind, n: i32) -> Option<Expression>
+    ensures { result ≡ literal_form (Some kind) n }
+{
+    is_literal(kind, n).then_some(Expression::Literal(kind, n))
+}
+
+/// The row that a declaration names, if it names one: with none the variable has nulls.
+fn start_of(a: u16) -> Option<u16>
     ensures { result ≡ start_of a }
 {
-    if a == 65535 {
-        Start::Nulls
-    } else {
-        Start::Value(a)
+    match a {
+        65535 => None,
+        _ => Some(a),
     }
 }
 
-fn literal(kind: Option<Kind>, n: i32) -> Option<Instruction>
-    ensures { result ≡ literal_form kind n }
+fn declare(x: Row) -> Option<Instruction>
+    ensures { result ≡ declared_by x }
 {
-    match kind {
-        None => None,
-        Some(k) => if is_literal(k, n) {
-            Some(Instruction::Expression(Expression::Literal(k, n)))
-        } else {
-            None
-        },
-    }
+    let typing = Typing {
+        kind: Kind::try_from(x.c).ok()?,
+        shape: Shape::try_from(x.b).ok()?,
+        r: size_from(x.r),
+        s: size_from(x.s),
+    };
+    typing.has_fixed_sizes().then_some(Instruction::Change(Change::Declare(typing, start_of(x.a))))
 }
 
-fn empty(kind: Option<Kind>) -> Option<Instruction>
-    ensures { result ≡ empty_of kind }
-{
-    match kind {
-        None => None,
-        Some(k) => Some(Instruction::Expression(Expression::Empty(k))),
-    }
-}
-
-fn prefix(operation: Option<Prefix>, a: u16) -> Option<Instruction>
-    ensures { result ≡ prefixed operation a }
-{
-    match operation {
-        None => None,
-        Some(o) => Some(Instruction::Expression(Expression::Prefix(o, a))),
-    }
-}
-
-fn infix(operation: Option<Infix>, a: u16, b: u16) -> Option<Instruction>
-    ensures { result ≡ infixed operation a b }
-{
-    match operation {
-        None => None,
-        Some(o) => Some(Instruction::Expression(Expression::Infix(o, a, b))),
-    }
-}
-
-fn measure(asked: Option<Measure>, a: u16) -> Option<Instruction>
-    ensures { result ≡ measured asked a }
-{
-    match asked {
-        None => None,
-        Some(m) => Some(Instruction::Expression(Expression::Measure(m, a))),
-    }
-}
-
-fn cast(kind: Option<Kind>, a: u16) -> Option<Instruction>
-    ensures { result ≡ cast_to kind a }
-{
-    match kind {
-        None => None,
-        Some(k) => Some(Instruction::Expression(Expression::Cast(k, a))),
-    }
-}
-
-fn declare(
-    kind: Option<Kind>,
-    shape: Option<Shape>,
-    r: Size,
-    s: Size,
-    start: Start,
-) -> Option<Instruction>
-    ensures { result ≡ declared_form kind shape r s start }
-{
-    match kind {
-        None => None,
-        Some(k) => match shape {
-            None => None,
-            Some(x) => if (Typing {
-                kind: k,
-                shape: x,
-                r,
-                s,
-            })
-            .has_fixed_sizes()
-            {
-                Some(Instruction::Change(Change::Declare(k, x, r, s, start)))
-            } else {
-                None
-            },
-        },
-    }
-}
-
-fn expression_of(x: Row) -> Option<Instruction>
+fn expression_of(x: Row) -> Option<Expression>
     ensures { result ≡ expression_of x }
 {
     match x.code {
-        1 => literal(Kind::from_number(x.a), x.n),
-        2 => empty(Kind::from_number(x.a)),
-        3 => Some(Instruction::Expression(Expression::Variable(x.a))),
-        4 => prefix(prefix_of(x.c), x.a),
-        5 => infix(infix_of(x.c), x.a, x.b),
-        6 => Some(Instruction::Expression(Expression::Interval(x.a, x.b))),
-        7 => Some(Instruction::Expression(Expression::Stack(x.a, x.b))),
-        8 => Some(Instruction::Expression(Expression::Pick(x.a, x.b))),
-        9 => Some(Instruction::Expression(Expression::PickTwo(x.a, x.b, x.c))),
-        10 => measure(measure_of(x.c), x.a),
-        11 => cast(Kind::from_number(x.c), x.a),
-        12 => Some(Instruction::Expression(Expression::Resize(
-            x.a,
-            Size::from_number(x.r),
-            Size::from_number(x.s),
-        ))),
-        13 => Some(Instruction::Expression(Expression::State)),
+        1 => literal(Kind::try_from(x.a).ok()?, x.n),
+        2 => Some(Expression::Empty(Kind::try_from(x.a).ok()?)),
+        3 => Some(Expression::Variable(x.a)),
+        4 => Some(Expression::Prefix(Prefix::try_from(x.c).ok()?, x.a)),
+        5 => Some(Expression::Infix(Infix::try_from(x.c).ok()?, x.a, x.b)),
+        6 => Some(Expression::Interval(x.a, x.b)),
+        7 => Some(Expression::Stack(x.a, x.b)),
+        8 => Some(Expression::Pick(x.a, x.b)),
+        9 => Some(Expression::PickTwo(x.a, x.b, x.c)),
+        10 => Some(Expression::Measure(Measure::try_from(x.c).ok()?, x.a)),
+        11 => Some(Expression::Cast(Kind::try_from(x.c).ok()?, x.a)),
+        12 => Some(Expression::Resize(x.a, size_from(x.r), size_from(x.s))),
+        13 => Some(Expression::State),
         _ => None,
     }
 }
@@ -145,13 +71,7 @@ fn statement_of(x: Row) -> Option<Instruction>
     ensures { result ≡ statement_of x }
 {
     match x.code {
-        20 => declare(
-            Kind::from_number(x.c),
-            Shape::from_number(x.b),
-            Size::from_number(x.r),
-            Size::from_number(x.s),
-            start_of(x.a),
-        ),
+        20 => declare(x),
         21 => Some(Instruction::Change(Change::Assign(x.a, x.b))),
         22 => Some(Instruction::Change(Change::Store(x.a, x.b, x.c))),
         23 => Some(Instruction::Change(Change::StoreTwo(x.a, x.b, x.c, x.d))),
@@ -178,7 +98,7 @@ pub fn decode(x: Row) -> Option<Instruction>
         return None;
     }
     if x.code <= 13 {
-        expression_of(x)
+        expression_of(x).map(Instruction::Expression)
     } else {
         statement_of(x)
     }

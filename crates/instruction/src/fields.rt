@@ -5,7 +5,7 @@ ghost use Rattle.instruction.specs.Fields.{fields_of, is_zero, plain};
 use sheet::Row;
 
 /// The fields of a row that its code names.
-#[derive(Clone, Copy)]
+#[derive(Clone, Copy, Debug, PartialEq, Eq)]
 pub enum Fields {
     Nothing,
     A,
@@ -44,6 +44,7 @@ fn is_zero(n: i32) -> bool
 }
 
 /// Whether each other field of the row is 0.
+// No plainer: to compare with the row whose other fields are 0, each arm writes all nine, since a row with ghost fields takes no `..`.
 pub fn is_plain(fields: Fields, x: Row) -> bool
     ensures { result ≡ plain fields x }
 {

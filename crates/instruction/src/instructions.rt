@@ -1,18 +1,26 @@
 //! What a row says, with its numbers read. A `u16` names a row.
 use arithmetic::integers::Arithmetic;
-use arithmetic::operators::Prefix;
 use arithmetic::truths::{Logic, Order};
-use types::{Kind, Shape, Size};
+use types::{Kind, Size, Typing};
+
+/// An operation on one value. Each works on its own kind.
+#[derive(Clone, Copy, Debug, PartialEq, Eq)]
+pub enum Prefix {
+    /// The minus of integers.
+    Minus,
+    /// The negation of booleans.
+    Not,
+}
 
 /// Whether all elements are equal, or not.
-#[derive(Clone, Copy)]
+#[derive(Clone, Copy, Debug, PartialEq, Eq)]
 pub enum Equality {
     Equal,
     Unequal,
 }
 
 /// An operation on two values, by its family.
-#[derive(Clone, Copy)]
+#[derive(Clone, Copy, Debug, PartialEq, Eq)]
 pub enum Infix {
     Arithmetic(Arithmetic),
     Order(Order),
@@ -27,7 +35,7 @@ pub enum Infix {
 }
 
 /// What is asked of the shape of a value, or made of it.
-#[derive(Clone, Copy)]
+#[derive(Clone, Copy, Debug, PartialEq, Eq)]
 pub enum Measure {
     Length,
     Rows,
@@ -38,7 +46,7 @@ pub enum Measure {
 }
 
 /// A row that makes a value.
-#[derive(Clone, Copy)]
+#[derive(Clone, Copy, Debug, PartialEq, Eq)]
 pub enum Expression {
     Literal(Kind, i32),
     Empty(Kind),
@@ -60,17 +68,11 @@ pub enum Expression {
     State,
 }
 
-/// What a variable is declared with.
-#[derive(Clone, Copy)]
-pub enum Start {
-    Nulls,
-    Value(u16),
-}
-
 /// A row that changes a variable, prints, reads or returns. The variable comes first.
-#[derive(Clone, Copy)]
+#[derive(Clone, Copy, Debug, PartialEq, Eq)]
 pub enum Change {
-    Declare(Kind, Shape, Size, Size, Start),
+    /// A variable of this type, with the value of a row, or with nulls.
+    Declare(Typing, Option<u16>),
     Assign(u16, u16),
     /// Into a vector: at the indices of a row, the elements of a row.
     Store(u16, u16, u16),
@@ -82,7 +84,7 @@ pub enum Change {
 }
 
 /// A row that decides which row is next. An opener names the row that closes its block, last; an end its opener.
-#[derive(Clone, Copy)]
+#[derive(Clone, Copy, Debug, PartialEq, Eq)]
 pub enum Control {
     If(u16, u16),
     Else(u16),
@@ -95,7 +97,7 @@ pub enum Control {
 }
 
 /// What a row says.
-#[derive(Clone, Copy)]
+#[derive(Clone, Copy, Debug, PartialEq, Eq)]
 pub enum Instruction {
     Expression(Expression),
     Change(Change),

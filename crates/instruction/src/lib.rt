@@ -7,4 +7,6 @@ mod instructions;
 mod operators;
 
 pub use decoding::decode;
-pub use instructions::{Change, Control, Equality, Expression, Infix, Instruction, Measure, Start};
+pub use instructions::{
+    Change, Control, Equality, Expression, Infix, Instruction, Measure, Prefix,
+};

@@ -1,60 +1,68 @@
 //! The operators by their numbers.
-ghost use Rattle.std.specs.Prelude.{◌≡◌};
-ghost use Rattle.instruction.specs.Operators.{prefix_of, infix_of, measure_of};
+ghost use Rattle.instruction.specs.Operators.{prefix_of, infix_of, measure_of, Reads};
 
-use crate::instructions::{Equality, Infix, Measure};
+use crate::instructions::{Equality, Infix, Measure, Prefix};
 use arithmetic::integers::Arithmetic;
-use arithmetic::operators::Prefix;
 use arithmetic::truths::{Logic, Order};
+use types::UnknownNumber;
 
-/// The prefix operator that has this number, if one has.
-pub fn prefix_of(n: u16) -> Option<Prefix>
-    ensures { result ≡ prefix_of n }
-{
-    match n {
-        1 => Some(Prefix::Minus),
-        2 => Some(Prefix::Not),
-        _ => None,
+impl TryFrom<u16> for Prefix {
+    type Error = UnknownNumber;
+
+    ghost try_from_gives = { Reads prefix_of };
+
+    fn try_from(value: u16) -> Result<Prefix, UnknownNumber> {
+        match value {
+            1 => Ok(Prefix::Minus),
+            2 => Ok(Prefix::Not),
+            _ => Err(UnknownNumber(value)),
+        }
     }
 }
 
-/// The infix operator that has this number, if one has.
-pub fn infix_of(n: u16) -> Option<Infix>
-    ensures { result ≡ infix_of n }
-{
-    match n {
-        1 => Some(Infix::Arithmetic(Arithmetic::Add)),
-        2 => Some(Infix::Arithmetic(Arithmetic::Subtract)),
-        3 => Some(Infix::Arithmetic(Arithmetic::Multiply)),
-        4 => Some(Infix::Arithmetic(Arithmetic::Divide)),
-        5 => Some(Infix::Arithmetic(Arithmetic::Remainder)),
-        6 => Some(Infix::Arithmetic(Arithmetic::Power)),
-        7 => Some(Infix::Order(Order::Less)),
-        8 => Some(Infix::Order(Order::Greater)),
-        9 => Some(Infix::Order(Order::AtMost)),
-        10 => Some(Infix::Order(Order::AtLeast)),
-        11 => Some(Infix::Logic(Logic::And)),
-        12 => Some(Infix::Logic(Logic::Or)),
-        13 => Some(Infix::Logic(Logic::Xor)),
-        14 => Some(Infix::Equality(Equality::Equal)),
-        15 => Some(Infix::Equality(Equality::Unequal)),
-        16 => Some(Infix::Join),
-        17 => Some(Infix::Product),
-        18 => Some(Infix::By),
-        _ => None,
+impl TryFrom<u16> for Infix {
+    type Error = UnknownNumber;
+
+    ghost try_from_gives = { Reads infix_of };
+
+    fn try_from(value: u16) -> Result<Infix, UnknownNumber> {
+        match value {
+            1 => Ok(Infix::Arithmetic(Arithmetic::Add)),
+            2 => Ok(Infix::Arithmetic(Arithmetic::Subtract)),
+            3 => Ok(Infix::Arithmetic(Arithmetic::Multiply)),
+            4 => Ok(Infix::Arithmetic(Arithmetic::Divide)),
+            5 => Ok(Infix::Arithmetic(Arithmetic::Remainder)),
+            6 => Ok(Infix::Arithmetic(Arithmetic::Power)),
+            7 => Ok(Infix::Order(Order::Less)),
+            8 => Ok(Infix::Order(Order::Greater)),
+            9 => Ok(Infix::Order(Order::AtMost)),
+            10 => Ok(Infix::Order(Order::AtLeast)),
+            11 => Ok(Infix::Logic(Logic::And)),
+            12 => Ok(Infix::Logic(Logic::Or)),
+            13 => Ok(Infix::Logic(Logic::Xor)),
+            14 => Ok(Infix::Equality(Equality::Equal)),
+            15 => Ok(Infix::Equality(Equality::Unequal)),
+            16 => Ok(Infix::Join),
+            17 => Ok(Infix::Product),
+            18 => Ok(Infix::By),
+            _ => Err(UnknownNumber(value)),
+        }
     }
 }
 
-/// What is asked of a shape by this number, if anything is.
-pub fn measure_of(n: u16) -> Option<Measure>
-    ensures { result ≡ measure_of n }
-{
-    match n {
-        1 => Some(Measure::Length),
-        2 => Some(Measure::Rows),
-        3 => Some(Measure::Columns),
-        4 => Some(Measure::Reverse),
-        5 => Some(Measure::Single),
-        _ => None,
+impl TryFrom<u16> for Measure {
+    type Error = UnknownNumber;
+
+    ghost try_from_gives = { Reads measure_of };
+
+    fn try_from(value: u16) -> Result<Measure, UnknownNumber> {
+        match value {
+            1 => Ok(Measure::Length),
+            2 => Ok(Measure::Rows),
+            3 => Ok(Measure::Columns),
+            4 => Ok(Measure::Reverse),
+            5 => Ok(Measure::Single),
+            _ => Err(UnknownNumber(value)),
+        }
     }
 }

@@ -1,17 +1,15 @@
 -- The plan of each row is as check noted the row: of expressions, and of rows that declare, assign and store.
-use Rattle.std.proofs.Common.{◌≡◌, ℕ, ◌+◌, max, Bool, true, false, cond, not, ◌&&◌, ◌||◌, eqb, List, [], Some, Ok, Option, Result, sym, refl, ap, ◌∙◌, subst}
+use Rattle.std.proofs.Common.{◌≡◌, ℕ, ◌+◌, max, Bool, true, false, cond, not, ◌&&◌, ◌||◌, eqb, List, [], Some, Ok, Option, Result, sym, refl, ap, ◌∙◌, subst, None}
 use Rattle.std.proofs.lemmas.Bool.{and_parts, and_from, eqb-true, eq-eqb}
 use Rattle.types.specs.declared.kinds.Kind.{Kind}
 use Rattle.types.specs.declared.kinds.Kind.TheVariants.{Boolean, Character, Integer}
 use Rattle.types.specs.declared.kinds.Shape.{Shape}
 use Rattle.types.specs.declared.kinds.Shape.TheVariants.{Scalar, Vector, Matrix, Interval}
-use Rattle.types.specs.declared.kinds.Size.{Size}
-use Rattle.types.specs.declared.kinds.Size.TheVariants.{Open, Known}
 use Rattle.types.specs.declared.typing.Typing.{Typing}
-use Rattle.types.specs.Types.{same_shape, is_known, exactly as exact_size, agree, or_else, plus, larger, fits_in}
+use Rattle.types.specs.Types.{Size, same_shape, is_known, exactly as exact_size, agree, or_else, plus, larger, fits_in}
 use Rattle.types.specs.Typings.{typing, scalar, vector, matrix, interval as interval_typing, is, of, flat, alone, index, pairs, type_fits, span, matches, matches_spread, spread}
-use Rattle.arithmetic.specs.declared.operators.Prefix.{Prefix}
-use Rattle.arithmetic.specs.declared.operators.Prefix.TheVariants.{Minus, Not}
+use Rattle.instruction.specs.declared.instructions.Prefix.{Prefix}
+use Rattle.instruction.specs.declared.instructions.Prefix.TheVariants.{Minus, Not}
 use Rattle.arithmetic.specs.declared.faults.ElementFault.{ElementFault}
 use Rattle.arithmetic.specs.Exact.{exact}
 use Rattle.arithmetic.specs.Truths.{ordered, decided}
@@ -38,7 +36,7 @@ use Rattle.laws.specs.Fitting.{SizeFits, Held, Ready, AllReady}
 use Rattle.laws.specs.Reads.{make_reads}
 use Rattle.laws.proofs.Guards.{Safe, Matched, Met, safe, Meets, meets_value, meets_unless, meets_sized, meets_cond}
 use Rattle.laws.proofs.Sizes.{fits_either, fits_plus, fits_larger, fits_cond, fits_written, fits_given}
-use Rattle.laws.proofs.Layouts.{never, kind_same}
+use Rattle.meaning.proofs.Rows.{kinds_equal}
 use Rattle.laws.proofs.Wholes.{same_sizes}
 
 -- ---- an operand that is as noted: its note has its own kind and shape
@@ -60,7 +58,7 @@ fixed_flat : (k l : Kind) (x : Shape) (r s : ℕ) → not (same_shape Interval x
 fixed_flat k l Scalar r s p h = h
 fixed_flat k l Vector r s p h = h
 fixed_flat k l Matrix r s p h = h
-fixed_flat k l Interval r s p h = absurd (never p)
+fixed_flat k l Interval r s p h = cc
 
 fixed_cond : (t : Bool) (k : Kind) (x y : Shape) (r q s p : ℕ) → fixed (layout_of k x r s) ≡ true → fixed (layout_of k y q p) ≡ true → fixed (layout_of k (cond t x y) (cond t r q) (cond t s p)) ≡ true
 fixed_cond true k x y r q s p h g = h
@@ -81,11 +79,11 @@ matched_spread false false eq k xa xb Ra Sa Rb Sb ra sa rb sb e p q u v =
 
 -- ---- one operand
 resize_fixed : (k : Kind) (x : Shape) (R S : Size) → (same_shape Vector x || same_shape Matrix x) ≡ true → (same_shape Matrix x || exact_size 1 R) ≡ true → fixed (layout_of k x (size_or R 0) (size_or S 0)) ≡ true
-resize_fixed k Scalar R S h g = absurd (never h)
-resize_fixed k Vector Open S h g = absurd (never g)
-resize_fixed k Vector (Known r) S h g = g
+resize_fixed k Scalar R S h g = cc
+resize_fixed k Vector None S h g = cc
+resize_fixed k Vector (Some r) S h g = g
 resize_fixed k Matrix R S h g = refl
-resize_fixed k Interval R S h g = absurd (never h)
+resize_fixed k Interval R S h g = cc
 
 module _ (W : ℕ) (a : Value) (Ra Sa : Size) (oa : Operand a Ra Sa) where
   meets_prefix : (op : Prefix) → Meets (prefix_rule op (note_of a Ra Sa)) (prefixed op a)
@@ -94,14 +92,14 @@ module _ (W : ℕ) (a : Value) (Ra Sa : Size) (oa : Operand a Ra Sa) where
       meets_value (note_of a Ra Sa) (prefixed Minus a) (record {
         ruled = ok;
         exists = fixed_flat a.layout.kind Integer a.layout.shape a.layout.r a.layout.s p.1 oa.exists;
-        matched = record { kind = kind_same Integer a.layout.kind p.0; shape = refl; r = λ _. oa.r; s = λ _. oa.s };
+        matched = record { kind = kinds_equal Integer a.layout.kind p.0; shape = refl; r = λ _. oa.r; s = λ _. oa.s };
       }))
   meets_prefix Not = meets_unless (of Boolean (exactly a) && flat (exactly a)) Unfit (value (note_of a Ra Sa)) (prefixed Not a) (λ ok.
       let p = and_parts (of Boolean (exactly a)) (flat (exactly a)) ok in
       meets_value (note_of a Ra Sa) (prefixed Not a) (record {
         ruled = ok;
         exists = fixed_flat a.layout.kind Boolean a.layout.shape a.layout.r a.layout.s p.1 oa.exists;
-        matched = record { kind = kind_same Boolean a.layout.kind p.0; shape = refl; r = λ _. oa.r; s = λ _. oa.s };
+        matched = record { kind = kinds_equal Boolean a.layout.kind p.0; shape = refl; r = λ _. oa.r; s = λ _. oa.s };
       }))
 
   meets_cast : (k : Kind) → Meets (cast_rule k (note_of a Ra Sa)) (cast_to k a)
@@ -113,13 +111,13 @@ module _ (W : ℕ) (a : Value) (Ra Sa : Size) (oa : Operand a Ra Sa) where
       }))
 
   meets_measured : (m : Asked) → Meets (measure_rule m (note_of a Ra Sa)) (measured m a)
-  meets_measured Length = meets_unless (is Vector (exactly a)) Unfit (value (scalar Integer)) (measured Length a) (λ ok. meets_value (scalar Integer) (measured Length a) (record { ruled = ok; exists = refl; matched = matched_known Integer Scalar (Known 1) (Known 1) 1 1 true refl refl }))
-  meets_measured Rows = meets_unless (is Matrix (exactly a)) Unfit (value (scalar Integer)) (measured Rows a) (λ ok. meets_value (scalar Integer) (measured Rows a) (record { ruled = ok; exists = refl; matched = matched_known Integer Scalar (Known 1) (Known 1) 1 1 true refl refl }))
-  meets_measured Columns = meets_unless (is Matrix (exactly a)) Unfit (value (scalar Integer)) (measured Columns a) (λ ok. meets_value (scalar Integer) (measured Columns a) (record { ruled = ok; exists = refl; matched = matched_known Integer Scalar (Known 1) (Known 1) 1 1 true refl refl }))
+  meets_measured Length = meets_unless (is Vector (exactly a)) Unfit (value (scalar Integer)) (measured Length a) (λ ok. meets_value (scalar Integer) (measured Length a) (record { ruled = ok; exists = refl; matched = matched_known Integer Scalar (Some 1) (Some 1) 1 1 true refl refl }))
+  meets_measured Rows = meets_unless (is Matrix (exactly a)) Unfit (value (scalar Integer)) (measured Rows a) (λ ok. meets_value (scalar Integer) (measured Rows a) (record { ruled = ok; exists = refl; matched = matched_known Integer Scalar (Some 1) (Some 1) 1 1 true refl refl }))
+  meets_measured Columns = meets_unless (is Matrix (exactly a)) Unfit (value (scalar Integer)) (measured Columns a) (λ ok. meets_value (scalar Integer) (measured Columns a) (record { ruled = ok; exists = refl; matched = matched_known Integer Scalar (Some 1) (Some 1) 1 1 true refl refl }))
   meets_measured Reverse = meets_unless (is Vector (exactly a)) Unfit (value (note_of a Ra Sa)) (measured Reverse a) (λ ok.
       meets_value (note_of a Ra Sa) (measured Reverse a) (record { ruled = ok; exists = oa.exists; matched = record { kind = refl; shape = refl; r = λ _. oa.r; s = λ _. oa.s } }))
-  meets_measured Single = meets_unless (is Scalar (exactly a)) Unfit (value (vector a.layout.kind (Known 1))) (measured Single a) (λ ok.
-      meets_value (vector a.layout.kind (Known 1)) (measured Single a) (record { ruled = ok; exists = refl; matched = matched_known a.layout.kind Vector (Known 1) (Known 1) 1 1 true refl refl }))
+  meets_measured Single = meets_unless (is Scalar (exactly a)) Unfit (value (vector a.layout.kind (Some 1))) (measured Single a) (λ ok.
+      meets_value (vector a.layout.kind (Some 1)) (measured Single a) (record { ruled = ok; exists = refl; matched = matched_known a.layout.kind Vector (Some 1) (Some 1) 1 1 true refl refl }))
 
   meets_copied : Meets (value (note_of a Ra Sa)) (copied a)
   meets_copied = meets_value (note_of a Ra Sa) (copied a) (record { ruled = refl; exists = oa.exists; matched = record { kind = refl; shape = refl; r = λ _. oa.r; s = λ _. oa.s } })
@@ -142,17 +140,17 @@ module _ (W : ℕ) (a : Value) (Ra Sa : Size) (oa : Operand a Ra Sa) where
 -- ---- two operands
 one_count : (k : Kind) (y : Shape) (r s m : ℕ) → fixed (layout_of k y r s) ≡ true → same_shape Scalar y ≡ true → cond (same_shape Interval y) m s ≡ 1
 one_count k Scalar r s m h t = eqb-true s 1 (and_parts (eqb r 1) (eqb s 1) h).1
-one_count k Vector r s m h t = absurd (never t)
-one_count k Matrix r s m h t = absurd (never t)
-one_count k Interval r s m h t = absurd (never t)
+one_count k Vector r s m h t = cc
+one_count k Matrix r s m h t = cc
+one_count k Interval r s m h t = cc
 
 pick_fixed : (t : Bool) (k : Kind) (c : ℕ) → (t ≡ true → c ≡ 1) → fixed (layout_of k (cond t Scalar Vector) 1 c) ≡ true
 pick_fixed true k c e = eq-eqb c 1 (e refl)
 pick_fixed false k c e = refl
 
 pick_matched : (t : Bool) (k : Kind) (S : Size) (c : ℕ) → (t ≡ true → c ≡ 1) → SizeFits S c → Matched (cond t (scalar k) (vector k S)) (layout_of k (cond t Scalar Vector) 1 c) true
-pick_matched true k S c e p = matched_known k Scalar (Known 1) (Known 1) 1 c true refl (sym (e refl))
-pick_matched false k S c e p = matched_known k Vector (Known 1) S 1 c true refl p
+pick_matched true k S c e p = matched_known k Scalar (Some 1) (Some 1) 1 c true refl (sym (e refl))
+pick_matched false k S c e p = matched_known k Vector (Some 1) S 1 c true refl p
 
 pick_two_fixed : (t u : Bool) (k : Kind) (b c : ℕ) → (t ≡ true → b ≡ 1) → fixed (layout_of k (cond t (cond u Scalar Vector) (cond u Vector Matrix)) (cond u 1 b) (cond u b c)) ≡ true
 pick_two_fixed true true k b c e = eq-eqb b 1 (e refl)
@@ -162,21 +160,21 @@ pick_two_fixed false false k b c e = refl
 
 pick_two_matched : (t u : Bool) (k : Kind) (S T : Size) (b c : ℕ) → (t ≡ true → b ≡ 1) → SizeFits S b → SizeFits T c
     → Matched (cond t (cond u (scalar k) (vector k T)) (cond u (vector k S) (matrix k S T))) (layout_of k (cond t (cond u Scalar Vector) (cond u Vector Matrix)) (cond u 1 b) (cond u b c)) true
-pick_two_matched true true k S T b c e p q = matched_known k Scalar (Known 1) (Known 1) 1 b true refl (sym (e refl))
-pick_two_matched true false k S T b c e p q = matched_known k Vector (Known 1) T b c true (sym (e refl)) q
-pick_two_matched false true k S T b c e p q = matched_known k Vector (Known 1) S 1 b true refl p
+pick_two_matched true true k S T b c e p q = matched_known k Scalar (Some 1) (Some 1) 1 b true refl (sym (e refl))
+pick_two_matched true false k S T b c e p q = matched_known k Vector (Some 1) T b c true (sym (e refl)) q
+pick_two_matched false true k S T b c e p q = matched_known k Vector (Some 1) S 1 b true refl p
 pick_two_matched false false k S T b c e p q = matched_known k Matrix S T b c true p q
 
 product_dot : (v : Bool) (r s : ℕ) (b : Bool) → v ≡ true → Matched (scalar Integer) (layout_of Integer (cond v Scalar Matrix) (cond v 1 r) (cond v 1 s)) b
-product_dot true r s b h = matched_known Integer Scalar (Known 1) (Known 1) 1 1 b refl refl
-product_dot false r s b h = absurd (never h)
+product_dot true r s b h = matched_known Integer Scalar (Some 1) (Some 1) 1 1 b refl refl
+product_dot false r s b h = cc
 
 product_matrix : (v : Bool) (R S : Size) (r s : ℕ) (b : Bool) → v ≡ false → SizeFits R r → SizeFits S s → Matched (matrix Integer R S) (layout_of Integer (cond v Scalar Matrix) (cond v 1 r) (cond v 1 s)) b
-product_matrix true R S r s b h p q = absurd (never (sym h))
+product_matrix true R S r s b h p q = cc
 product_matrix false R S r s b h p q = matched_known Integer Matrix R S r s b p q
 
 fits_count : (b : Value) (R S : Size) → Operand b R S → SizeFits (span (note_of b R S)) (count b)
-fits_count b R S ob = fits_cond (is Interval (exactly b)) Open S (spanned (first b) (last b)) b.layout.s tt ob.s
+fits_count b R S ob = fits_cond (is Interval (exactly b)) None S (spanned (first b) (last b)) b.layout.s tt ob.s
 
 count_one : (b : Value) (R S : Size) → Operand b R S → is Scalar (exactly b) ≡ true → count b ≡ 1
 count_one b R S ob t = one_count b.layout.kind b.layout.shape b.layout.r b.layout.s (spanned (first b) (last b)) ob.exists t
@@ -208,7 +206,7 @@ module _ (W : ℕ) (a b : Value) (Ra Sa Rb Sb : Size) (oa : Operand a Ra Sa) (ob
       let u = note_of b Rb Sb in
       meets_unless (of t.kind u && (pairs t u || (is Interval t && is Interval u))) Unfit (unless (matches_spread t u) Sizes (value (scalar Boolean))) (equated op a b) (λ ok.
       meets_unless (matches_spread t u) Sizes (value (scalar Boolean)) (equated op a b) (λ _.
-      meets_value (scalar Boolean) (equated op a b) (record { ruled = ok; exists = refl; matched = matched_known Boolean Scalar (Known 1) (Known 1) 1 1 (matches_spread (exactly a) (exactly b)) refl refl })))
+      meets_value (scalar Boolean) (equated op a b) (record { ruled = ok; exists = refl; matched = matched_known Boolean Scalar (Some 1) (Some 1) 1 1 (matches_spread (exactly a) (exactly b)) refl refl })))
 
   meets_joined : Meets (join_rule W (note_of a Ra Sa) (note_of b Rb Sb)) (joined a b)
   meets_joined =
@@ -219,7 +217,7 @@ module _ (W : ℕ) (a b : Value) (Ra Sa Rb Sb : Size) (oa : Operand a Ra Sa) (ob
       meets_sized W (vector k (plus Sa Sb)) (joined a b) (record {
         ruled = ok;
         exists = refl;
-        matched = matched_known k Vector (Known 1) (plus Sa Sb) 1 (a.layout.s + b.layout.s) true refl (fits_plus Sa Sb a.layout.s b.layout.s oa.s ob.s);
+        matched = matched_known k Vector (Some 1) (plus Sa Sb) 1 (a.layout.s + b.layout.s) true refl (fits_plus Sa Sb a.layout.s b.layout.s oa.s ob.s);
       }))
 
   meets_multiplied : Meets (product_rule W (note_of a Ra Sa) (note_of b Rb Sb)) (multiplied a b)
@@ -246,8 +244,8 @@ module _ (W : ℕ) (a b : Value) (Ra Sa Rb Sb : Size) (oa : Operand a Ra Sa) (ob
   meets_stepped =
       let t = note_of a Ra Sa in
       let k = a.layout.kind in
-      meets_unless ((is Vector t || is Interval t) && alone Integer (note_of b Rb Sb)) Unfit (value (vector k Open)) (stepped_by a b) (λ ok.
-      meets_value (vector k Open) (stepped_by a b) (record { ruled = ok; exists = refl; matched = matched_known k Vector (Known 1) Open 1 (stepped_by a b).layout.s true refl tt }))
+      meets_unless ((is Vector t || is Interval t) && alone Integer (note_of b Rb Sb)) Unfit (value (vector k None)) (stepped_by a b) (λ ok.
+      meets_value (vector k None) (stepped_by a b) (record { ruled = ok; exists = refl; matched = matched_known k Vector (Some 1) None 1 (stepped_by a b).layout.s true refl tt }))
 
   meets_infixed : (op : Infix) → Meets (infix_rule W op (note_of a Ra Sa) (note_of b Rb Sb)) (infixed op a b)
   meets_infixed (family.Arithmetic op) = meets_pair Integer Integer (λ xs ys. collected 1 (map2 (exact op) xs ys))
@@ -260,20 +258,20 @@ module _ (W : ℕ) (a b : Value) (Ra Sa Rb Sb : Size) (oa : Operand a Ra Sa) (ob
 
   meets_interval : Meets (interval_rule (note_of a Ra Sa) (note_of b Rb Sb)) (interval a b)
   meets_interval = meets_unless (alone Integer (note_of a Ra Sa) && alone Integer (note_of b Rb Sb)) Unfit (value interval_typing) (interval a b) (λ ok.
-      meets_value interval_typing (interval a b) (record { ruled = ok; exists = refl; matched = matched_known Integer Interval (Known 1) (Known 2) 1 2 true refl refl }))
+      meets_value interval_typing (interval a b) (record { ruled = ok; exists = refl; matched = matched_known Integer Interval (Some 1) (Some 2) 1 2 true refl refl }))
 
   meets_stack : Meets (stack_rule W (note_of a Ra Sa) (note_of b Rb Sb)) (stack a b)
   meets_stack =
       let t = note_of a Ra Sa in
       let u = note_of b Rb Sb in
       let k = a.layout.kind in
-      let n = matrix k (plus Ra (Known 1)) (larger Sa Sb) in
+      let n = matrix k (plus Ra (Some 1)) (larger Sa Sb) in
       meets_unless (of t.kind u && ((is Vector t || is Matrix t) && is Vector u)) Unfit (sized W n) (stack a b) (λ ok.
       meets_sized W n (stack a b) (record {
         ruled = ok;
         exists = refl;
-        matched = matched_known k Matrix (plus Ra (Known 1)) (larger Sa Sb) (a.layout.r + 1) (max a.layout.s b.layout.s) true
-            (fits_plus Ra (Known 1) a.layout.r 1 oa.r refl) (fits_larger Sa Sb a.layout.s b.layout.s oa.s ob.s);
+        matched = matched_known k Matrix (plus Ra (Some 1)) (larger Sa Sb) (a.layout.r + 1) (max a.layout.s b.layout.s) true
+            (fits_plus Ra (Some 1) a.layout.r 1 oa.r refl) (fits_larger Sa Sb a.layout.s b.layout.s oa.s ob.s);
       }))
 
   meets_pick : Meets (pick_rule (note_of a Ra Sa) (note_of b Rb Sb)) (pick a b)
@@ -302,8 +300,8 @@ meets_pick_two W a b c Ra Sa Rb Sb Rc Sc ob oc =
     }))
 
 -- ---- no operand
-meets_constant : (k : Kind) (x : Shape) (r s : ℕ) (xs : Result (List (Cell k)) ElementFault) → fixed (layout_of k x r s) ≡ true → Meets (value (typing k x (Known r) (Known s))) (simple true (layout_of k x r s) xs)
-meets_constant k x r s xs h = meets_value (typing k x (Known r) (Known s)) (simple true (layout_of k x r s) xs) (record { ruled = refl; exists = h; matched = matched_known k x (Known r) (Known s) r s true refl refl })
+meets_constant : (k : Kind) (x : Shape) (r s : ℕ) (xs : Result (List (Cell k)) ElementFault) → fixed (layout_of k x r s) ≡ true → Meets (value (typing k x (Some r) (Some s))) (simple true (layout_of k x r s) xs)
+meets_constant k x r s xs h = meets_value (typing k x (Some r) (Some s)) (simple true (layout_of k x r s) xs) (record { ruled = refl; exists = h; matched = matched_known k x (Some r) (Some s) r s true refl refl })
 
 -- ---- every expression row
 safe_with : (W : ℕ) (n : Typing) (o : Option Value) (f : Value → Outcome) (v : Value) → o ≡ Some v → Safe W n (f v) → Safe W n (with o f)
@@ -352,8 +350,8 @@ module _ (W : ℕ) (at : ℕ → Option Value) (notes : ℕ → Typing) where
 
 -- ---- rows that declare
 size_written : (n : ℕ) (w : Size) (m : ℕ) → exact_size n w ≡ true → eqb (size_or w m) n ≡ true
-size_written n (Known x) m h = h
-size_written n Open m h = absurd (never h)
+size_written n (Some x) m h = h
+size_written n None m h = cc
 
 written_fixed : (k : Kind) (x : Shape) (R S : Size) (r s : ℕ) → type_fits k x R S ≡ true → fixed (layout_of k x (size_or R r) (size_or S s)) ≡ true
 written_fixed k Scalar R S r s h =
@@ -361,8 +359,8 @@ written_fixed k Scalar R S r s h =
     and_from (eqb (size_or R r) 1) (eqb (size_or S s) 1) (size_written 1 R r p.0) (size_written 1 S s p.1)
 written_fixed k Vector R S r s h = size_written 1 R r h
 written_fixed k Matrix R S r s h = refl
-written_fixed Boolean Interval R S r s h = absurd (never h)
-written_fixed Character Interval R S r s h = absurd (never h)
+written_fixed Boolean Interval R S r s h = cc
+written_fixed Character Interval R S r s h = cc
 written_fixed Integer Interval R S r s h =
     let p = and_parts (exact_size 1 R) (exact_size 2 S) h in
     and_from (eqb (size_or R r) 1) (eqb (size_or S s) 2) (size_written 1 R r p.0) (size_written 2 S s p.1)

@@ -1,59 +1,31 @@
 -- Tests of kinds and shapes that pass, and layouts of scalars.
-use Rattle.std.proofs.Common.{◌≡◌, ℕ, true, false, ◌&&◌, ◌||◌, eqb, leb, sym, refl, ap, ◌∙◌, arith}
+use Rattle.std.proofs.Common.{◌≡◌, ℕ, true, ◌&&◌, ◌||◌, eqb, leb, sym, ap, ◌∙◌, arith}
 use Rattle.std.proofs.lemmas.Bool.{and_parts, and_from, eqb-true}
+use Rattle.std.proofs.lemmas.Bool.Decides.{nat_tests}
 use Rattle.types.specs.declared.kinds.Kind.{Kind}
 use Rattle.types.specs.declared.kinds.Kind.TheVariants.{Boolean, Character, Integer}
 use Rattle.types.specs.declared.kinds.Shape.{Shape}
 use Rattle.types.specs.declared.kinds.Shape.TheVariants.{Scalar, Vector, Matrix, Interval}
-use Rattle.types.specs.Types.{same_kind, same_shape}
+use Rattle.types.specs.Types.{same_shape}
 use Rattle.meaning.specs.declared.layouts.Layout.{Layout}
 use Rattle.meaning.specs.Values.{layout_of, scalar_of, fixed, within, lawful}
 
-pub never : false ≡ true → ⊥
-never h = let z : ◌≡◌ {A = ℕ} 0 1 = cc in omega arith
-
-pub kind_same : (k l : Kind) → same_kind k l ≡ true → k ≡ l
-kind_same Boolean Boolean h = refl
-kind_same Boolean Character h = absurd (never h)
-kind_same Boolean Integer h = absurd (never h)
-kind_same Character Boolean h = absurd (never h)
-kind_same Character Character h = refl
-kind_same Character Integer h = absurd (never h)
-kind_same Integer Boolean h = absurd (never h)
-kind_same Integer Character h = absurd (never h)
-kind_same Integer Integer h = refl
-
 pub shape_same : (x y : Shape) → same_shape x y ≡ true → x ≡ y
-shape_same Scalar Scalar h = refl
-shape_same Scalar Vector h = absurd (never h)
-shape_same Scalar Matrix h = absurd (never h)
-shape_same Scalar Interval h = absurd (never h)
-shape_same Vector Scalar h = absurd (never h)
-shape_same Vector Vector h = refl
-shape_same Vector Matrix h = absurd (never h)
-shape_same Vector Interval h = absurd (never h)
-shape_same Matrix Scalar h = absurd (never h)
-shape_same Matrix Vector h = absurd (never h)
-shape_same Matrix Matrix h = refl
-shape_same Matrix Interval h = absurd (never h)
-shape_same Interval Scalar h = absurd (never h)
-shape_same Interval Vector h = absurd (never h)
-shape_same Interval Matrix h = absurd (never h)
-shape_same Interval Interval h = refl
+shape_same x y h = grind (arith, nat_tests)
 
 -- a lawful scalar has the layout of scalars
 pub scalar_same : (k : Kind) (x : Shape) (r s : ℕ) → fixed (layout_of k x r s) ≡ true → same_shape Scalar x ≡ true → scalar_of k ≡ layout_of k x r s
 scalar_same k Scalar r s h t = let p = and_parts (eqb r 1) (eqb s 1) h in λ i. layout_of k Scalar (sym (eqb-true r 1 p.0) i) (sym (eqb-true s 1 p.1) i)
-scalar_same k Vector r s h t = absurd (never t)
-scalar_same k Matrix r s h t = absurd (never t)
-scalar_same k Interval r s h t = absurd (never t)
+scalar_same k Vector r s h t = cc
+scalar_same k Matrix r s h t = cc
+scalar_same k Interval r s h t = cc
 
 listed_one : (k : Kind) (x : Shape) (r s : ℕ) → fixed (layout_of k x r s) ≡ true → (same_shape Vector x || same_shape Interval x) ≡ true → r ≡ 1
-listed_one k Scalar r s h t = absurd (never t)
+listed_one k Scalar r s h t = cc
 listed_one k Vector r s h t = eqb-true r 1 h
-listed_one k Matrix r s h t = absurd (never t)
-listed_one Boolean Interval r s h t = absurd (never h)
-listed_one Character Interval r s h t = absurd (never h)
+listed_one k Matrix r s h t = cc
+listed_one Boolean Interval r s h t = cc
+listed_one Character Interval r s h t = cc
 listed_one Integer Interval r s h t = eqb-true r 1 (and_parts (eqb r 1) (eqb s 2) h).0
 
 -- where a vector or an interval may exist, a scalar may

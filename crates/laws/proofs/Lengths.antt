@@ -16,14 +16,14 @@ ok_length ys n l xs e = let same : ys ≡ xs = cc in ap length (sym same) ∙ l
 
 before_ok : {X E : Type 0} (x : X) (r : Result (List X) E) (ys : List X) → before x r ≡ Ok ys → (xs : List X) × (r ≡ Ok xs) × (x ∷ xs ≡ ys)
 before_ok x (Ok xs) ys h = (xs, refl, cc)
-before_ok x (Err e) ys h = absurd (let z : ◌≡◌ {A = ℕ} 0 1 = cc in omega arith)
+before_ok x (Err e) ys h = cc
 
 pub length_collected : {X : Type 0} (k : ℕ) (rs : List (Result X ArithmeticFault)) (xs : List X) → collected k rs ≡ Ok xs → length xs ≡ length rs
 length_collected k [] xs h = ok_length [] 0 refl xs h
 length_collected k (Ok x ∷ rs) xs h =
     let b = before_ok x (collected (k + 1) rs) xs h in
     ap length (sym b.2) ∙ ap suc (length_collected (k + 1) rs b.0 b.1)
-length_collected k (Err f ∷ rs) xs h = absurd (let z : ◌≡◌ {A = ℕ} 0 1 = cc in omega arith)
+length_collected k (Err f ∷ rs) xs h = cc
 
 pub length_map2 : {X Y Z : Type 0} (f : X → Y → Z) (xs : List X) (ys : List Y) (n : ℕ) → length xs ≡ n → length ys ≡ n → length (map2 f xs ys) ≡ n
 length_map2 f [] ys n p q = p

@@ -1,5 +1,5 @@
 -- Progress and preservation: one lemma an effect, then what each row does with an outcome, then every row.
-use Rattle.std.proofs.Common.{◌≡◌, ℕ, suc, ◌+◌, ◌-◌, ◌*◌, ◌<◌, ◌≤◌, Bool, true, false, cond, ◌&&◌, ◌||◌, ltb, leb, ◌⊎◌, List, [], ◌∷◌, length, drop, Some, Ok, Err, Option, sym, refl, ap, ◌∙◌, subst, inl, inr, arith}
+use Rattle.std.proofs.Common.{◌≡◌, ℕ, suc, ◌+◌, ◌-◌, ◌*◌, ◌<◌, ◌≤◌, Bool, true, false, cond, ◌&&◌, ◌||◌, ltb, leb, ◌⊎◌, List, [], ◌∷◌, length, drop, Some, Ok, Err, Option, sym, refl, ap, ◌∙◌, subst, inl, inr, arith, None}
 use Rattle.std.proofs.lemmas.List.{length-set}
 use Rattle.std.proofs.lemmas.Bool.{and_parts, leb-true, leb-false, cond-true, cond_both}
 use Rattle.types.specs.declared.kinds.Kind.{Kind}
@@ -7,16 +7,13 @@ use Rattle.types.specs.declared.kinds.Kind.TheVariants.{Boolean, Character, Inte
 use Rattle.types.specs.declared.kinds.Shape.TheVariants.{Scalar, Vector, Interval}
 use Rattle.types.specs.declared.typing.Typing.{Typing}
 use Rattle.types.specs.Types.{same_shape, agree}
-use Rattle.types.specs.declared.kinds.Size.TheVariants.{Known}
-use Rattle.types.specs.Typings.{typing, scalar, is, of, flat, alone, matches}
+use Rattle.types.specs.Typings.{scalar, is, of, flat, alone, matches}
 use Rattle.source.specs.Taking.{gone}
 use Rattle.source.specs.Waiting.{behind}
 use Rattle.source.specs.Words.{rest}
 use Rattle.source.proofs.Cuts.{from_front}
 use Rattle.fault.specs.declared.causes.Cause.{Cause}
 use Rattle.fault.specs.declared.causes.Cause.TheVariants.{SizesDiffer, Disordered, NoRule}
-use Rattle.instruction.specs.declared.instructions.Start.{Start}
-use Rattle.instruction.specs.declared.instructions.Start.TheVariants.{Nulls, Value as Given}
 use Rattle.instruction.specs.declared.instructions.Change.{Change as Changes}
 use Rattle.instruction.specs.declared.instructions.Change.TheVariants as change
 use Rattle.instruction.specs.declared.instructions.Control.{Control as Turn}
@@ -42,7 +39,8 @@ use Rattle.laws.specs.Fitting.{Fits, Held, Ready, AllReady}
 use Rattle.laws.specs.Reads.{reads, make_reads, start_reads, change_reads, resume_reads, reopen_reads, turn_reads, AllUnder}
 use Rattle.laws.specs.Laws.{Whole, Roomy, WholeAt, AllWhole}
 use Rattle.laws.specs.Keeps.{Made, Failed, Ended, Passed, Printed, Awaits, Filled, Returned, Makes, Branches, Advances, ChangeLeaves, ResumeLeaves, ReopenLeaves, TurnLeaves, Leaves, AllNoted, resumed, reopened, turn_advances, advanced, change_writes, written_fits, RowsSafe}
-use Rattle.laws.proofs.Layouts.{kind_same, shape_same, scalar_same, scalar_lawful}
+use Rattle.meaning.proofs.Rows.{kinds_equal}
+use Rattle.laws.proofs.Layouts.{shape_same, scalar_same, scalar_lawful}
 use Rattle.laws.proofs.Sizes.{agree_fits}
 use Rattle.laws.proofs.Tables.{effects, found, under_all, lawful_area, table_length, valued_some, layout_kind}
 use Rattle.laws.proofs.Wholes.{wholes, layout_of}
@@ -80,9 +78,9 @@ turned_whole v n x h = by (is Vector (exactly v) || is Interval (exactly v)) (in
   where
     by : (a b c : Bool) → cond a (cond b (cond c (takes (element_at v n)) over) (fails Disordered)) (fails NoRule) ≡ takes x → Whole x
     by true true true h = let same : element_at v n ≡ x = cc in subst Whole same refl
-    by true true false h = absurd (let z : ◌≡◌ {A = ℕ} 0 1 = cc in omega arith)
-    by true false c h = absurd (let z : ◌≡◌ {A = ℕ} 0 1 = cc in omega arith)
-    by false b c h = absurd (let z : ◌≡◌ {A = ℕ} 0 1 = cc in omega arith)
+    by true true false h = cc
+    by true false c h = cc
+    by false b c h = cc
 
 -- ---- what a read leaves in the source
 behind_front : (xs : List ℕ) → behind xs ≡ drop (gone xs (behind xs)) xs
@@ -284,14 +282,14 @@ module _ (W rows : ℕ) (notes : ℕ → Typing) (p line : ℕ) (s : State) (roo
       subst Goal (sym (cond-true test (cond fit yes' no') (stuck W p line s) has))
       (cond_both fit yes' no' Goal
       (λ yes.
-      let sizes = and_parts (agree head.r (Known f.r)) (agree head.s (Known f.s)) yes in
+      let sizes = and_parts (agree head.r (Some f.r)) (agree head.s (Some f.s)) yes in
       inl (record {
         value = v;
         holds = ready.1;
         answer = refl;
         same = refl;
         fits = record {
-          kind = sym (kind_same head.kind f.kind both.0);
+          kind = sym (kinds_equal head.kind f.kind both.0);
           shape = sym (shape_same head.shape f.shape both.1);
           r = agree_fits head.r f.r sizes.0;
           s = agree_fits head.s f.s sizes.1;
@@ -324,9 +322,9 @@ module _ (W line : ℕ) (head : Typing) (lines : List Line) (rows : ℕ) (s : St
   abbrev Hand : List ℕ → Type 0
   Hand is = AllUnder rows is × AllReady W notes (value_at W s) is
 
-  begins_kept : (w : Typing) (v : Start) → Writes w → Hand (start_reads v) → start_rule W head notes w v ≡ Ok own → StepMakes W rows notes p line s roomy inside p (begins W p line s w v)
-  begins_kept w Nulls law hand h = declares_kept W rows notes p line s roomy inside (outcome W (nulls w)) (λ v o. wholes.nulls W w v o) (nulls_safe W w own law h)
-  begins_kept w (Given a) law hand h =
+  begins_kept : (w : Typing) (v : Option ℕ) → Writes w → Hand (start_reads v) → start_rule W head notes w v ≡ Ok own → StepMakes W rows notes p line s roomy inside p (begins W p line s w v)
+  begins_kept w None law hand h = declares_kept W rows notes p line s roomy inside (outcome W (nulls w)) (λ v o. wholes.nulls W w v o) (nulls_safe W w own law h)
+  begins_kept w (Some a) law hand h =
       let ra = hand.1.0 in
       let e = with_some (value_at W s a) (λ v. outcome W (declared w v)) ra.0 ra.1 in
       subst (λ (o : Outcome). StepMakes W rows notes p line s roomy inside p (declares W p line s o)) (sym e)
@@ -378,7 +376,7 @@ module _ (W line : ℕ) (head : Typing) (lines : List Line) (rows : ℕ) (s : St
       (store_two_safe W u rb.0 rc.0 rd.0 (notes i) (notes b) (notes c) (notes d) own ri.2 rb.2 rc.2 rd.2 h))
 
   change_kept : (c : Changes) → change_writes c ≡ true → Hand (change_reads c) → change_rule W head notes c ≡ Ok own → (let x = changes W p line s head c in ChangeLeaves W rows notes p line s x.answer x.state head c)
-  change_kept (change.Declare k x r z v) law hand h = begins_kept (typing k x r z) v law hand h
+  change_kept (change.Declare w v) law hand h = begins_kept w v law hand h
   change_kept (change.Assign i a) law hand h = assigns_kept i a hand h
   change_kept (change.Store i b c) law hand h = stores_kept i b c hand h
   change_kept (change.StoreTwo i b c d) law hand h = stores_two_kept i b c d hand h

@@ -1,19 +1,15 @@
 -- What check's acceptance gives for the law of rows: notes, rows that are read, written types.
-use Rattle.std.proofs.Common.{◌≡◌, ℕ, ◌+◌, ◌<◌, ◌≤◌, Bool, true, false, cond, ◌||◌, eqb, ltb, leb, ◌⊎◌, List, [], ◌∷◌, length, get_or, take, ℤ, Some, None, Option, sym, refl, ap, ◌∙◌, subst, inl, inr, ⊎_elim, arith}
+use Rattle.std.proofs.Common.{◌≡◌, ℕ, ◌+◌, ◌<◌, ◌≤◌, Bool, true, false, cond, ◌||◌, eqb, ltb, leb, ◌⊎◌, List, [], ◌∷◌, length, get_or, take, Some, None, Option, sym, refl, ap, ◌∙◌, subst, inl, inr, ⊎_elim, arith}
+use Rattle.std.specs.Option.{option_map}
 use Rattle.std.proofs.lemmas.List.{get_or_past}
 use Rattle.std.proofs.lemmas.Bool.{and_parts, ltb-true, cases_lt, cond_both}
 use Rattle.sheet.specs.declared.row.Row.{Row as SheetRow}
 use Rattle.types.specs.declared.kinds.Kind.{Kind}
 use Rattle.types.specs.declared.kinds.Shape.{Shape}
-use Rattle.types.specs.declared.kinds.Size.{Size}
 use Rattle.types.specs.declared.typing.Typing.{Typing}
-use Rattle.types.specs.Types.{kind_of, shape_of, written}
-use Rattle.types.specs.Typings.{type_fits}
-use Rattle.arithmetic.specs.declared.operators.Prefix.{Prefix}
-use Rattle.instruction.specs.declared.instructions.Infix.{Infix}
-use Rattle.instruction.specs.declared.instructions.Measure.{Measure as Asked}
-use Rattle.instruction.specs.declared.instructions.Start.{Start}
-use Rattle.instruction.specs.declared.instructions.Start.TheVariants.{Nulls, Value as Given}
+use Rattle.types.specs.Types.{Size, kind_of, shape_of, written}
+use Rattle.types.specs.Typings.{typing, type_fits}
+use Rattle.instruction.specs.declared.instructions.Expression.{Expression as Make}
 use Rattle.instruction.specs.declared.instructions.Expression.TheVariants as make
 use Rattle.instruction.specs.declared.instructions.Change.TheVariants as change
 use Rattle.instruction.specs.declared.instructions.Control.{Control as Turn}
@@ -21,8 +17,7 @@ use Rattle.instruction.specs.declared.instructions.Control.TheVariants as contro
 use Rattle.instruction.specs.declared.instructions.Instruction.{Instruction}
 use Rattle.instruction.specs.declared.instructions.Instruction.TheVariants.{Expression, Change, Control}
 use Rattle.instruction.specs.Fields.{fields_of, plain}
-use Rattle.instruction.specs.Forms.{literal_fits, start_of, literal, empty_of, prefixed, infixed, measured, cast_to, declared, expression_of, statement_of, form}
-use Rattle.instruction.specs.Operators.{prefix_of, infix_of, measure_of}
+use Rattle.instruction.specs.Forms.{start_of, declared, expression_of, statement_of, form}
 use Rattle.checker.specs.declared.line.Line.{Line}
 use Rattle.checker.specs.Blocks.{at, past_end, operands, all, near, below, makes, blocks}
 use Rattle.checker.specs.Judge.{Accepted, no_row}
@@ -39,7 +34,7 @@ abbrev Fine : Option Instruction → Type 0
 Fine o = (i : Instruction) → o ≡ Some i → written_fits i ≡ true
 
 fine_none : Fine None
-fine_none i e = absurd (let z : ◌≡◌ {A = ℕ} 0 1 = cc in omega arith)
+fine_none i e = cc
 
 fine_some : (x : Instruction) → written_fits x ≡ true → Fine (Some x)
 fine_some x h i e = let same : x ≡ i = cc in ap written_fits (sym same) ∙ h
@@ -48,55 +43,19 @@ fine_cond : (b : Bool) (x y : Option Instruction) → Fine x → Fine y → Fine
 fine_cond true x y f g = f
 fine_cond false x y f g = g
 
-fine_literal : (o : Option Kind) (n : ℤ) → Fine (literal o n)
-fine_literal None n = fine_none
-fine_literal (Some k) n = fine_cond (literal_fits k n) (Some (Expression (make.Literal k n))) None (fine_some (Expression (make.Literal k n)) refl) fine_none
+fine_expression : (o : Option Make) → Fine (option_map Expression o)
+fine_expression None = fine_none
+fine_expression (Some e) = fine_some (Expression e) refl
 
-fine_empty : (o : Option Kind) → Fine (empty_of o)
-fine_empty None = fine_none
-fine_empty (Some k) = fine_some (Expression (make.Empty k)) refl
-
-fine_prefixed : (o : Option Prefix) (a : ℕ) → Fine (prefixed o a)
-fine_prefixed None a = fine_none
-fine_prefixed (Some p) a = fine_some (Expression (make.Prefix p a)) refl
-
-fine_infixed : (o : Option Infix) (a b : ℕ) → Fine (infixed o a b)
-fine_infixed None a b = fine_none
-fine_infixed (Some p) a b = fine_some (Expression (make.Infix p a b)) refl
-
-fine_measured : (o : Option Asked) (a : ℕ) → Fine (measured o a)
-fine_measured None a = fine_none
-fine_measured (Some m) a = fine_some (Expression (make.Measure m a)) refl
-
-fine_cast : (o : Option Kind) (a : ℕ) → Fine (cast_to o a)
-fine_cast None a = fine_none
-fine_cast (Some k) a = fine_some (Expression (make.Cast k a)) refl
-
-fine_declared : (o : Option Kind) (q : Option Shape) (r s : Size) (v : Start) → Fine (declared o q r s v)
+fine_declared : (o : Option Kind) (q : Option Shape) (r s : Size) (v : Option ℕ) → Fine (declared o q r s v)
 fine_declared None q r s v = fine_none
 fine_declared (Some k) None r s v = fine_none
-fine_declared (Some k) (Some x) r s v = cond_both (type_fits k x r s) (Some (Change (change.Declare k x r s v))) None Fine (λ h. fine_some (Change (change.Declare k x r s v)) h) (λ _. fine_none)
+fine_declared (Some k) (Some x) r s v = cond_both (type_fits k x r s) (Some (Change (change.Declare (typing k x r s) v))) None Fine (λ h. fine_some (Change (change.Declare (typing k x r s) v)) h) (λ _. fine_none)
 
 -- a code picks one of these, or what the others pick
 module _ (x : SheetRow) where
   abbrev Code : ℕ → Bool
   Code n = eqb x.code n
-
-  fine_expression : Fine (expression_of x)
-  fine_expression =
-      fine_cond (Code 1) _ _ (fine_literal (kind_of x.a) x.n) (
-      fine_cond (Code 2) _ _ (fine_empty (kind_of x.a)) (
-      fine_cond (Code 3) _ _ (fine_some (Expression (make.Variable x.a)) refl) (
-      fine_cond (Code 4) _ _ (fine_prefixed (prefix_of x.c) x.a) (
-      fine_cond (Code 5) _ _ (fine_infixed (infix_of x.c) x.a x.b) (
-      fine_cond (Code 6) _ _ (fine_some (Expression (make.Interval x.a x.b)) refl) (
-      fine_cond (Code 7) _ _ (fine_some (Expression (make.Stack x.a x.b)) refl) (
-      fine_cond (Code 8) _ _ (fine_some (Expression (make.Pick x.a x.b)) refl) (
-      fine_cond (Code 9) _ _ (fine_some (Expression (make.PickTwo x.a x.b x.c)) refl) (
-      fine_cond (Code 10) _ _ (fine_measured (measure_of x.c) x.a) (
-      fine_cond (Code 11) _ _ (fine_cast (kind_of x.c) x.a) (
-      fine_cond (Code 12) _ _ (fine_some (Expression (make.Resize x.a (written x.r) (written x.s))) refl) (
-      fine_cond (Code 13) _ _ (fine_some (Expression make.State) refl) fine_none))))))))))))
 
   fine_statement : Fine (statement_of x)
   fine_statement =
@@ -117,7 +76,9 @@ module _ (x : SheetRow) where
       fine_cond (Code 34) _ _ (fine_some (Change (change.Return x.a)) refl) fine_none))))))))))))))
 
   fine_form : Fine (form x)
-  fine_form = fine_cond (plain (fields_of x.code) x) (cond (leb x.code 13) (expression_of x) (statement_of x)) None (fine_cond (leb x.code 13) (expression_of x) (statement_of x) fine_expression fine_statement) fine_none
+  fine_form =
+      let said = option_map Expression (expression_of x) in
+      fine_cond (plain (fields_of x.code) x) (cond (leb x.code 13) said (statement_of x)) None (fine_cond (leb x.code 13) said (statement_of x) (fine_expression (expression_of x)) fine_statement) fine_none
 
 -- ---- rows that stand before p
 near_under : (lines : List Line) (p n : ℕ) → p < n → (is : List ℕ) → all (near lines p) is ≡ true → AllUnder n is
@@ -212,8 +173,8 @@ module _ (W : ℕ) (head : Typing) (rows : List SheetRow) (lines : List Line) (o
   reads_under p (Expression (make.Cast k a)) lt e = near_under lines p (length rows) lt (a ∷ []) (taken_as p (Expression (make.Cast k a)) lt e)
   reads_under p (Expression (make.Resize a r s)) lt e = near_under lines p (length rows) lt (a ∷ []) (taken_as p (Expression (make.Resize a r s)) lt e)
   reads_under p (Expression make.State) lt e = tt
-  reads_under p (Change (change.Declare k x r s Nulls)) lt e = tt
-  reads_under p (Change (change.Declare k x r s (Given a))) lt e = near_under lines p (length rows) lt (a ∷ []) (taken_as p (Change (change.Declare k x r s (Given a))) lt e)
+  reads_under p (Change (change.Declare t None)) lt e = tt
+  reads_under p (Change (change.Declare t (Some a))) lt e = near_under lines p (length rows) lt (a ∷ []) (taken_as p (Change (change.Declare t (Some a))) lt e)
   reads_under p (Change (change.Assign i a)) lt e = let under = (sheet.assigned p i a (among p lt) e).before in (omega arith, near_under lines p (length rows) lt (a ∷ []) (taken_as p (Change (change.Assign i a)) lt e))
   reads_under p (Change (change.Store i b c)) lt e = let under = (sheet.stored p i b c (among p lt) e).before in (omega arith, near_under lines p (length rows) lt (b ∷ c ∷ []) (taken_as p (Change (change.Store i b c)) lt e))
   reads_under p (Change (change.StoreTwo i b c d)) lt e = let under = (sheet.stored_two p i b c d (among p lt) e).before in (omega arith, near_under lines p (length rows) lt (b ∷ c ∷ d ∷ []) (taken_as p (Change (change.StoreTwo i b c d)) lt e))

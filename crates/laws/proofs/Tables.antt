@@ -108,7 +108,7 @@ lawful_area W f h =
 
 -- a slip tells only lawful layouts
 pub layout_lawful : (W : ℕ) (slip : Slip) (o : Option Kind) (f : Layout) → layout_by W slip o ≡ Some f → lawful W f ≡ true
-layout_lawful W slip None f h = absurd (let z : ◌≡◌ {A = ℕ} 0 1 = cc in omega arith)
+layout_lawful W slip None f h = cc
 layout_lawful W slip (Some k) f h =
     let g = layout_of k slip.shape slip.r slip.s in
     ⊎_elim
@@ -118,7 +118,7 @@ layout_lawful W slip (Some k) f h =
 
 -- a slip that tells a layout is not blank
 pub layout_kind : (W : ℕ) (slip : Slip) (o : Option Kind) (f : Layout) → layout_by W slip o ≡ Some f → (k : Kind) × (o ≡ Some k)
-layout_kind W slip None f h = absurd (let z : ◌≡◌ {A = ℕ} 0 1 = cc in omega arith)
+layout_kind W slip None f h = cc
 layout_kind W slip (Some k) f h = (k, refl)
 
 -- ---- values
@@ -129,7 +129,7 @@ valued_same W j t u (Some f) h = let same = h f refl in λ m. Some (value_of f (
 
 -- where a value is found there is its layout, and it is read from the cells
 pub valued_some : (W j : ℕ) (t : Tables) (o : Option Layout) (v : Value) → valued W t j o ≡ Some v → (o ≡ Some v.layout) × (value_from W t j v.layout ≡ v)
-valued_some W j t None v h = absurd (let z : ◌≡◌ {A = ℕ} 0 1 = cc in omega arith)
+valued_some W j t None v h = cc
 valued_some W j t (Some f) v h =
     let same : value_from W t j f ≡ v = cc in
     let e : f ≡ v.layout = ap (λ (x : Value). x.layout) same in

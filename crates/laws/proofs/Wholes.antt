@@ -6,13 +6,11 @@ use Rattle.types.specs.declared.kinds.Kind.{Kind}
 use Rattle.types.specs.declared.kinds.Kind.TheVariants.{Boolean, Character, Integer}
 use Rattle.types.specs.declared.kinds.Shape.{Shape}
 use Rattle.types.specs.declared.kinds.Shape.TheVariants.{Scalar, Vector, Matrix, Interval}
-use Rattle.types.specs.declared.kinds.Size.{Size}
-use Rattle.types.specs.declared.kinds.Size.TheVariants.{Known}
 use Rattle.types.specs.declared.typing.Typing.{Typing}
-use Rattle.types.specs.Types.{same_kind, same_shape}
+use Rattle.types.specs.Types.{Size, same_kind, same_shape}
 use Rattle.types.specs.Typings.{is, of, flat, alone, index, pairs, type_fits}
-use Rattle.arithmetic.specs.declared.operators.Prefix.{Prefix}
-use Rattle.arithmetic.specs.declared.operators.Prefix.TheVariants.{Minus, Not}
+use Rattle.instruction.specs.declared.instructions.Prefix.{Prefix}
+use Rattle.instruction.specs.declared.instructions.Prefix.TheVariants.{Minus, Not}
 use Rattle.arithmetic.specs.declared.faults.ArithmeticFault.{ArithmeticFault}
 use Rattle.arithmetic.specs.declared.faults.ElementFault.{ElementFault}
 use Rattle.arithmetic.specs.Exact.{exact, negated}
@@ -47,7 +45,6 @@ use Rattle.meaning.specs.Expressions.{count, listing, pair_layout, pairwise, equ
 use Rattle.meaning.specs.Changes.{nulls, alike, columns_for, items_for, declared_layout, declared, assigned, stored_at, stored_at_two}
 use Rattle.laws.specs.Laws.{Whole, WholeAt, AllWhole, Wholes}
 use Rattle.laws.specs.Reads.{make_reads}
-use Rattle.laws.proofs.Layouts.{never}
 use Rattle.laws.proofs.Tables.{found}
 use Rattle.laws.proofs.Lengths.{ok_length, length_collected, length_map2, length_tabulate, length_joined, length_crossed, length_stacked}
 
@@ -57,15 +54,15 @@ WholePlan p = p.ruled ≡ true → p.ordered ≡ true → p.agree ≡ true → (
 
 unless_gives : (b : Bool) (c : Cause) (o : Outcome) (v : Value) → unless b c o ≡ gives v → (b ≡ true) × (o ≡ gives v)
 unless_gives true c o v h = (refl, h)
-unless_gives false c o v h = absurd (let z : ◌≡◌ {A = ℕ} 0 1 = cc in omega arith)
+unless_gives false c o v h = cc
 
 outside_gives : (k : Option ℕ) (o : Outcome) (v : Value) → unless_outside k o ≡ gives v → o ≡ gives v
 outside_gives None o v h = h
-outside_gives (Some k) o v h = absurd (let z : ◌≡◌ {A = ℕ} 0 1 = cc in omega arith)
+outside_gives (Some k) o v h = cc
 
 finished_gives : (f : Layout) (r : Result (List (Cell f.kind)) ElementFault) (v : Value) → finished f r ≡ gives v → (xs : List (Cell f.kind)) × (r ≡ Ok xs) × (value_of f xs ≡ v)
 finished_gives f (Ok xs) v h = (xs, refl, cc)
-finished_gives f (Err e) v h = absurd (let z : ◌≡◌ {A = ℕ} 0 1 = cc in omega arith)
+finished_gives f (Err e) v h = cc
 
 -- what a plan that gives a value went through
 pub record Given (W : ℕ) (p : Plan) (v : Value) : Type 0 where
@@ -109,13 +106,13 @@ good W v law long = record { fixed_sizes = (and_parts (fixed v.layout) (within W
 
 length_as : (k l : Kind) (xs : List (Cell l)) → same_kind k l ≡ true → length (elements_as k l xs) ≡ length xs
 length_as Boolean Boolean xs h = refl
-length_as Boolean Character xs h = absurd (never h)
-length_as Boolean Integer xs h = absurd (never h)
-length_as Character Boolean xs h = absurd (never h)
+length_as Boolean Character xs h = cc
+length_as Boolean Integer xs h = cc
+length_as Character Boolean xs h = cc
 length_as Character Character xs h = refl
-length_as Character Integer xs h = absurd (never h)
-length_as Integer Boolean xs h = absurd (never h)
-length_as Integer Character xs h = absurd (never h)
+length_as Character Integer xs h = cc
+length_as Integer Boolean xs h = cc
+length_as Integer Character xs h = cc
 length_as Integer Integer xs h = refl
 
 kind_self : (k : Kind) → same_kind k k ≡ true
@@ -127,22 +124,22 @@ length_of : (k : Kind) (v : Value) → same_kind k v.layout.kind ≡ true → Wh
 length_of k v same long = length_as k v.layout.kind v.elements same ∙ long
 
 -- all shapes but a matrix have one row
-one_row : (k : Kind) (x : Shape) (r s : ℕ) → type_fits k x (Known r) (Known s) ≡ true → not (same_shape Matrix x) ≡ true → r * s ≡ s
+one_row : (k : Kind) (x : Shape) (r s : ℕ) → type_fits k x (Some r) (Some s) ≡ true → not (same_shape Matrix x) ≡ true → r * s ≡ s
 one_row k Scalar r s h t = ap (λ (m : ℕ). m * s) (eqb-true r 1 (and_parts (eqb r 1) (eqb s 1) h).0) ∙ one-mul s
 one_row k Vector r s h t = ap (λ (m : ℕ). m * s) (eqb-true r 1 h) ∙ one-mul s
-one_row k Matrix r s h t = absurd (never t)
-one_row Boolean Interval r s h t = absurd (never h)
-one_row Character Interval r s h t = absurd (never h)
+one_row k Matrix r s h t = cc
+one_row Boolean Interval r s h t = cc
+one_row Character Interval r s h t = cc
 one_row Integer Interval r s h t = ap (λ (m : ℕ). m * s) (eqb-true r 1 (and_parts (eqb r 1) (eqb s 2) h).0) ∙ one-mul s
 
 -- what is no integer is no interval
-no_interval : (k l : Kind) (x : Shape) (r s m : ℕ) → same_kind k l ≡ true → same_kind k Integer ≡ false → type_fits l x (Known r) (Known s) ≡ true → cond (same_shape Interval x) m s ≡ s
+no_interval : (k l : Kind) (x : Shape) (r s m : ℕ) → same_kind k l ≡ true → same_kind k Integer ≡ false → type_fits l x (Some r) (Some s) ≡ true → cond (same_shape Interval x) m s ≡ s
 no_interval k l Scalar r s m e h f = refl
 no_interval k l Vector r s m e h f = refl
 no_interval k l Matrix r s m e h f = refl
-no_interval k Boolean Interval r s m e h f = absurd (never f)
-no_interval k Character Interval r s m e h f = absurd (never f)
-no_interval k Integer Interval r s m e h f = absurd (never (sym h ∙ e))
+no_interval k Boolean Interval r s m e h f = cc
+no_interval k Character Interval r s m e h f = cc
+no_interval k Integer Interval r s m e h f = cc
 
 cond_length : {X : Type 0} (t : Bool) (xs ys : List X) (m n : ℕ) → length xs ≡ m → length ys ≡ n → length (cond t xs ys) ≡ cond t m n
 cond_length true xs ys m n p q = p
@@ -163,17 +160,17 @@ length_listing Integer v same t g =
 length_index : (v : Value) → index (exactly v) ≡ true → Good v → length (listing Integer v) ≡ count v
 length_index v h g = let p = and_parts (of Integer (exactly v)) (not (is Matrix (exactly v))) h in length_listing Integer v p.0 p.1 g
 
-scalar_count : (k : Kind) (y : Shape) (r s m : ℕ) → type_fits k y (Known r) (Known s) ≡ true → same_shape Scalar y ≡ true → cond (same_shape Interval y) m s ≡ 1
+scalar_count : (k : Kind) (y : Shape) (r s m : ℕ) → type_fits k y (Some r) (Some s) ≡ true → same_shape Scalar y ≡ true → cond (same_shape Interval y) m s ≡ 1
 scalar_count k Scalar r s m h t = eqb-true s 1 (and_parts (eqb r 1) (eqb s 1) h).1
-scalar_count k Vector r s m h t = absurd (never t)
-scalar_count k Matrix r s m h t = absurd (never t)
-scalar_count k Interval r s m h t = absurd (never t)
+scalar_count k Vector r s m h t = cc
+scalar_count k Matrix r s m h t = cc
+scalar_count k Interval r s m h t = cc
 
-scalar_area : (k : Kind) (x : Shape) (r s : ℕ) → type_fits k x (Known r) (Known s) ≡ true → same_shape Scalar x ≡ true → r * s ≡ 1
+scalar_area : (k : Kind) (x : Shape) (r s : ℕ) → type_fits k x (Some r) (Some s) ≡ true → same_shape Scalar x ≡ true → r * s ≡ 1
 scalar_area k Scalar r s h t = let p = and_parts (eqb r 1) (eqb s 1) h in λ i. eqb-true r 1 p.0 i * eqb-true s 1 p.1 i
-scalar_area k Vector r s h t = absurd (never t)
-scalar_area k Matrix r s h t = absurd (never t)
-scalar_area k Interval r s h t = absurd (never t)
+scalar_area k Vector r s h t = cc
+scalar_area k Matrix r s h t = cc
+scalar_area k Interval r s h t = cc
 
 -- ---- two operands, element by element
 length_along : (k : Kind) (n : ℕ) (v : Value) → same_kind k v.layout.kind ≡ true → Whole v → (is Scalar (exactly v) ≡ false → area v.layout ≡ n) → length (along k n v) ≡ n
@@ -184,14 +181,14 @@ length_along k n v same long h = by (is Scalar (exactly v)) h
     by false h = length_of k v same long ∙ h refl
 
 left_area : (t u e : Bool) (i j p q : ℕ) → (t || (u || e)) ≡ true → t ≡ false → i * p ≡ cond t j i * cond t q p
-left_area true u e i j p q g f = absurd (never (sym f))
+left_area true u e i j p q g f = cc
 left_area false u e i j p q g f = refl
 
 right_area : (t u e : Bool) (i j p q : ℕ) → (e ≡ true → (i ≡ j) × (p ≡ q)) → (t || (u || e)) ≡ true → u ≡ false → j * q ≡ cond t j i * cond t q p
 right_area true u e i j p q h g f = refl
-right_area false true e i j p q h g f = absurd (never (sym f))
+right_area false true e i j p q h g f = cc
 right_area false false true i j p q h g f = let b = h refl in λ m. sym b.0 m * sym b.1 m
-right_area false false false i j p q h g f = absurd (never g)
+right_area false false false i j p q h g f = cc
 
 pub same_sizes : (i j p q : ℕ) → (eqb i j && eqb p q) ≡ true → (i ≡ j) × (p ≡ q)
 same_sizes i j p q h = let b = and_parts (eqb i j) (eqb p q) h in (eqb-true i j b.0, eqb-true p q b.1)
@@ -240,13 +237,13 @@ module _ (a : Value) (g : Good a) where
 joins_row : (x : Shape) → (same_shape Scalar x || same_shape Vector x) ≡ true → not (same_shape Matrix x) ≡ true
 joins_row Scalar h = refl
 joins_row Vector h = refl
-joins_row Matrix h = absurd (never h)
+joins_row Matrix h = cc
 joins_row Interval h = refl
 
 listed_row : (x : Shape) → (same_shape Vector x || same_shape Interval x) ≡ true → not (same_shape Matrix x) ≡ true
 listed_row Scalar h = refl
 listed_row Vector h = refl
-listed_row Matrix h = absurd (never h)
+listed_row Matrix h = cc
 listed_row Interval h = refl
 
 product_long : (v : Bool) (x y : List (Result ℤ ArithmeticFault)) (r s : ℕ) → length x ≡ 1 → length y ≡ r * s → length (cond v x y) ≡ cond v 1 r * cond v 1 s
@@ -356,29 +353,29 @@ three_long false true xs ys zs n p q r = q
 three_long false false xs ys zs n p q r = r refl refl
 
 apart_long : (al sc iv ve ma : Bool) → (al || ((sc && (ve || ma)) || (iv && ve))) ≡ true → al ≡ false → sc ≡ false → (iv ≡ true) × (ve ≡ true)
-apart_long true sc iv ve ma h p q = absurd (never (sym p))
-apart_long false true iv ve ma h p q = absurd (never (sym q))
+apart_long true sc iv ve ma h p q = cc
+apart_long false true iv ve ma h p q = cc
 apart_long false false iv ve ma h p q = and_parts iv ve h
 
 interval_row : (x : Shape) → same_shape Interval x ≡ true → not (same_shape Matrix x) ≡ true
-interval_row Scalar h = absurd (never h)
-interval_row Vector h = absurd (never h)
-interval_row Matrix h = absurd (never h)
+interval_row Scalar h = cc
+interval_row Vector h = cc
+interval_row Matrix h = cc
 interval_row Interval h = refl
 
-vector_row : (k : Kind) (x : Shape) (r s : ℕ) → type_fits k x (Known r) (Known s) ≡ true → same_shape Vector x ≡ true → r * s ≡ s
-vector_row k Scalar r s h t = absurd (never t)
+vector_row : (k : Kind) (x : Shape) (r s : ℕ) → type_fits k x (Some r) (Some s) ≡ true → same_shape Vector x ≡ true → r * s ≡ s
+vector_row k Scalar r s h t = cc
 vector_row k Vector r s h t = one_row k Vector r s h refl
-vector_row k Matrix r s h t = absurd (never t)
-vector_row k Interval r s h t = absurd (never t)
+vector_row k Matrix r s h t = cc
+vector_row k Interval r s h t = cc
 
 agree_alike : (al m n : Bool) → cond al m n ≡ true → al ≡ true → m ≡ true
 agree_alike true m n h t = h
-agree_alike false m n h t = absurd (never t)
+agree_alike false m n h t = cc
 
 agree_apart : (al sc m e : Bool) → cond al m (sc || e) ≡ true → al ≡ false → sc ≡ false → e ≡ true
-agree_apart true sc m e h p q = absurd (never (sym p))
-agree_apart false true m e h p q = absurd (never (sym q))
+agree_apart true sc m e h p q = cc
+agree_apart false true m e h p q = cc
 agree_apart false false m e h p q = h
 
 whole_assigned : (a v : Value) → Good a → Good v → WholePlan (assigned a v)
@@ -415,7 +412,7 @@ whole_stored_two a b c d wa _ _ _ xs e =
 
 -- ---- every expression row
 with_gives : (o : Option Value) (f : Value → Outcome) (v : Value) → with o f ≡ gives v → (u : Value) × (o ≡ Some u) × (f u ≡ gives v)
-with_gives None f v h = absurd (let z : ◌≡◌ {A = ℕ} 0 1 = cc in omega arith)
+with_gives None f v h = cc
 with_gives (Some u) f v h = (u, refl, h)
 
 module _ (W : ℕ) (at : ℕ → Option Value) where

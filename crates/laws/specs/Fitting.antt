@@ -1,15 +1,14 @@
 -- When a value is as its row was noted, and when rows hold such values.
-use Rattle.std.specs.Prelude.{◌≡◌, ℕ, true, List, [], ◌∷◌, Some, Option}
-use Rattle.types.specs.declared.kinds.Size.{Size}
-use Rattle.types.specs.declared.kinds.Size.TheVariants.{Open, Known}
+use Rattle.std.specs.Prelude.{◌≡◌, ℕ, true, List, [], ◌∷◌, Some, Option, None}
+use Rattle.types.specs.Types.{Size}
 use Rattle.types.specs.declared.typing.Typing.{Typing}
 use Rattle.meaning.specs.declared.layouts.Layout.{Layout}
 use Rattle.meaning.specs.Values.{Value, lawful}
 
 -- a size is the noted one, where that is known
 abbrev pub SizeFits : Size → ℕ → Type 0
-SizeFits Open m = Unit {0}
-SizeFits (Known n) m = n ≡ m
+SizeFits None m = Unit {0}
+SizeFits (Some n) m = n ≡ m
 
 -- kind and shape are those noted, and so is each known size
 pub record Fits (n : Typing) (f : Layout) : Type 0 where

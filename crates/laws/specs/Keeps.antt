@@ -111,7 +111,7 @@ module _ (W rows : ℕ) (notes : ℕ → Typing) (p line : ℕ) (s : State) (a :
   Advances i e = Made i (i + 1) ⊎ (Failed ⊎ Ended i e)
 
   abbrev pub ChangeLeaves : Typing → Changes → Type 0
-  ChangeLeaves head (change.Declare k x r s v) = Makes p
+  ChangeLeaves head (change.Declare t v) = Makes p
   ChangeLeaves head (change.Assign i b) = Makes i
   ChangeLeaves head (change.Store i b c) = Makes i
   ChangeLeaves head (change.StoreTwo i b c d) = Makes i
@@ -191,7 +191,7 @@ advanced lines target (Change c) = []
 advanced lines target (Control u) = turn_advances lines target u
 
 abbrev pub change_writes : Changes → Bool
-change_writes (change.Declare k x r s v) = type_fits k x r s
+change_writes (change.Declare t v) = type_fits t.kind t.shape t.r t.s
 change_writes (change.Assign i b) = true
 change_writes (change.Store i b c) = true
 change_writes (change.StoreTwo i b c d) = true

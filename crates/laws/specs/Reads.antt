@@ -1,7 +1,5 @@
 -- The rows whose values an instruction uses: its operands, and the variable that it reads or writes.
-use Rattle.std.specs.Prelude.{ℕ, ◌<◌, List, [], ◌∷◌}
-use Rattle.instruction.specs.declared.instructions.Start.{Start}
-use Rattle.instruction.specs.declared.instructions.Start.TheVariants.{Nulls, Value as Given}
+use Rattle.std.specs.Prelude.{ℕ, ◌<◌, List, [], ◌∷◌, Some, None, Option}
 use Rattle.instruction.specs.declared.instructions.Expression.{Expression as Make}
 use Rattle.instruction.specs.declared.instructions.Expression.TheVariants as make
 use Rattle.instruction.specs.declared.instructions.Change.{Change as Changes}
@@ -28,12 +26,12 @@ make_reads (make.Cast k a) = a ∷ []
 make_reads (make.Resize a r s) = a ∷ []
 make_reads make.State = []
 
-abbrev pub start_reads : Start → List ℕ
-start_reads Nulls = []
-start_reads (Given a) = a ∷ []
+abbrev pub start_reads : Option ℕ → List ℕ
+start_reads None = []
+start_reads (Some a) = a ∷ []
 
 abbrev pub change_reads : Changes → List ℕ
-change_reads (change.Declare k x r s v) = start_reads v
+change_reads (change.Declare t v) = start_reads v
 change_reads (change.Assign i a) = i ∷ a ∷ []
 change_reads (change.Store i b c) = i ∷ b ∷ c ∷ []
 change_reads (change.StoreTwo i b c d) = i ∷ b ∷ c ∷ d ∷ []

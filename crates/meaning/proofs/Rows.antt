@@ -1,6 +1,7 @@
 -- Where the cells of rows lie, and what lawful layouts say of sizes.
 use Rattle.std.proofs.Common.{◌≡◌, ℕ, suc, ◌+◌, ◌*◌, ◌<◌, ◌≤◌, true, ◌&&◌, eqb, leb, refl, mul-le-mul_right, suc-mul, arith}
 use Rattle.std.proofs.lemmas.Bool.{and_parts, leb-true, eqb-true}
+use Rattle.std.proofs.lemmas.Bool.Decides.{nat_tests}
 use Rattle.types.specs.declared.kinds.Kind.{Kind}
 use Rattle.types.specs.declared.kinds.Kind.TheVariants.{Boolean, Character, Integer}
 use Rattle.types.specs.declared.kinds.Shape.{Shape}
@@ -12,7 +13,6 @@ use Rattle.meaning.specs.declared.places.Place.{Place}
 use Rattle.meaning.specs.Values.{area, fixed, within, lawful, elements_as, layout_of}
 use Rattle.meaning.specs.States.{Tables, table_of}
 use Rattle.meaning.specs.Works.{Operand}
-use Rattle.meaning.proofs.Shells.{never}
 
 -- row i lies before row n
 pub under_all : (W i n : ℕ) → i < n → i * W + W ≤ n * W
@@ -54,39 +54,31 @@ scalar_one f h t = go f.kind f.shape f.r f.s h t
   where
     go : (k : Kind) (x : Shape) (r s : ℕ) → fixed (layout_of k x r s) ≡ true → same_shape Scalar x ≡ true → (r ≡ 1) × (s ≡ 1)
     go k Scalar r s h t = let p = and_parts (eqb r 1) (eqb s 1) h in (eqb-true r 1 p.0, eqb-true s 1 p.1)
-    go k Vector r s h t = never t
-    go k Matrix r s h t = never t
-    go k Interval r s h t = never t
+    go k Vector r s h t = cc
+    go k Matrix r s h t = cc
+    go k Interval r s h t = cc
 
 -- a vector has one row
 pub vector_one : (f : Layout) → fixed f ≡ true → same_shape Vector f.shape ≡ true → f.r ≡ 1
 vector_one f h t = go f.kind f.shape f.r f.s h t
   where
     go : (k : Kind) (x : Shape) (r s : ℕ) → fixed (layout_of k x r s) ≡ true → same_shape Vector x ≡ true → r ≡ 1
-    go k Scalar r s h t = never t
+    go k Scalar r s h t = cc
     go k Vector r s h t = eqb-true r 1 h
-    go k Matrix r s h t = never t
-    go k Interval r s h t = never t
+    go k Matrix r s h t = cc
+    go k Interval r s h t = cc
 
 -- the elements of a value, asked for as its own kind
 pub as_cells : (k l : Kind) (t : Tables) (at n : ℕ) → same_kind k l ≡ true → elements_as k l (cells (table_of l t) at n) ≡ cells (table_of k t) at n
 as_cells Boolean Boolean t at n h = refl
-as_cells Boolean Character t at n h = never h
-as_cells Boolean Integer t at n h = never h
-as_cells Character Boolean t at n h = never h
+as_cells Boolean Character t at n h = cc
+as_cells Boolean Integer t at n h = cc
+as_cells Character Boolean t at n h = cc
 as_cells Character Character t at n h = refl
-as_cells Character Integer t at n h = never h
-as_cells Integer Boolean t at n h = never h
-as_cells Integer Character t at n h = never h
+as_cells Character Integer t at n h = cc
+as_cells Integer Boolean t at n h = cc
+as_cells Integer Character t at n h = cc
 as_cells Integer Integer t at n h = refl
 
 pub kinds_equal : (k l : Kind) → same_kind k l ≡ true → k ≡ l
-kinds_equal Boolean Boolean h = refl
-kinds_equal Boolean Character h = never h
-kinds_equal Boolean Integer h = never h
-kinds_equal Character Boolean h = never h
-kinds_equal Character Character h = refl
-kinds_equal Character Integer h = never h
-kinds_equal Integer Boolean h = never h
-kinds_equal Integer Character h = never h
-kinds_equal Integer Integer h = refl
+kinds_equal k l h = grind (arith, nat_tests)

@@ -14,7 +14,7 @@ use Rattle.meaning.specs.Expressions.{by1, by2, by3}
 use Rattle.meaning.specs.Works.{refuse, fault_at, guards, guarded, found, Left, Made}
 
 pub never : {P : Type 0} → false ≡ true → P
-never h = absurd (let z : ◌≡◌ {A = ℕ} 0 1 = cc in omega arith)
+never h = cc
 
 pub stays : (W i : ℕ) (t : Tables) → FreeAt W i t t
 stays W i t k = record { long = refl; before = refl; after = refl }
@@ -33,15 +33,15 @@ module _ (p : Place) (i : ℕ) (May : Tables → Tables → Type 0) (t u : Table
     refused true false d e f o x m h = (sym h, m)
     refused true true false e f o x m h = (sym h, m)
     refused true true true false f o x m h = (sym h, m)
-    refused true true true true f o x m h = absurd (let z : ◌≡◌ {A = ℕ} 0 1 = cc in omega arith)
+    refused true true true true f o x m h = cc
 
     passed : (b c d e : Bool) (o : Outcome) (x y : Layout)
         → refuse b (fault_at p NoRule 0) (refuse c (fault_at p Disordered 0) (refuse d (fault_at p Beyond 0) (refuse e (fault_at p SizesDiffer 0) (Ok x)))) ≡ Ok y
         → (unless b NoRule (unless c Disordered (unless d Beyond (unless e SizesDiffer o))) ≡ o) × (x ≡ y) × (b ≡ true) × (c ≡ true) × (d ≡ true) × (e ≡ true)
-    passed false c d e o x y h = absurd (let z : ◌≡◌ {A = ℕ} 0 1 = cc in omega arith)
-    passed true false d e o x y h = absurd (let z : ◌≡◌ {A = ℕ} 0 1 = cc in omega arith)
-    passed true true false e o x y h = absurd (let z : ◌≡◌ {A = ℕ} 0 1 = cc in omega arith)
-    passed true true true false o x y h = absurd (let z : ◌≡◌ {A = ℕ} 0 1 = cc in omega arith)
+    passed false c d e o x y h = cc
+    passed true false d e o x y h = cc
+    passed true true false e o x y h = cc
+    passed true true true false o x y h = cc
     passed true true true true o x y h = (refl, cc, refl, refl, refl, refl)
 
     -- a test fails
@@ -77,10 +77,10 @@ module _ (p : Place) (i : ℕ) (May : Tables → Tables → Type 0) (t u : Table
   module _ (slips : List Slip) (a : ℕ) (f : Value → Outcome) where
     missing_at : (o : Option Layout) (e : Fault) → found p o ≡ Err e → May t u → Left p i May (with (valued p.width t a o) f) t (Err e) u
     missing_at None e h m = (sym h, m)
-    missing_at (Some x) e h m = absurd (let z : ◌≡◌ {A = ℕ} 0 1 = cc in omega arith)
+    missing_at (Some x) e h m = cc
 
     there_at : (o : Option Layout) (x : Layout) (r : Result Layout Fault) → found p o ≡ Ok x → Left p i May (f (value_from p.width t a x)) t r u → Left p i May (with (valued p.width t a o) f) t r u
-    there_at None x r h m = absurd (let z : ◌≡◌ {A = ℕ} 0 1 = cc in omega arith)
+    there_at None x r h m = cc
     there_at (Some y) x r h m = let e : x ≡ y = cc in subst (λ (z : Layout). Left p i May (f (value_from p.width t a z)) t r u) e m
 
     -- there is no value at row a

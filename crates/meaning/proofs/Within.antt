@@ -1,5 +1,5 @@
 -- A value that a row gives is within the width.
-use Rattle.std.proofs.Common.{◌≡◌, ℕ, Bool, true, false, List, Some, None, Ok, Err, Option, Result, refl, subst, arith}
+use Rattle.std.proofs.Common.{◌≡◌, ℕ, Bool, true, false, List, Some, None, Ok, Err, Option, Result, refl, subst}
 use Rattle.std.proofs.lemmas.Bool.{and_parts}
 use Rattle.arithmetic.specs.declared.faults.ElementFault.{ElementFault}
 use Rattle.fault.specs.declared.causes.Cause.{Cause}
@@ -73,4 +73,4 @@ module _ (W : ℕ) where
 -- a layout that is told is that of a value that is given
 pub left_within : (p : Place) (i : ℕ) (May : Tables → Tables → Type 0) (o : Outcome) (t u : Tables) (f : Layout) → Within p.width o → Left p i May o t (Ok f) u → within p.width f.r f.s ≡ true
 left_within p i May (gives v) t u f w h = let q = h.0 in let e : v.layout ≡ f = cc in subst (λ (x : Layout). within p.width x.r x.s ≡ true) e w
-left_within p i May (faults c element) t u f w h = let q = h.0 in absurd (let z : ◌≡◌ {A = ℕ} 0 1 = cc in omega arith)
+left_within p i May (faults c element) t u f w h = let q = h.0 in cc

@@ -5,14 +5,12 @@ use Rattle.types.specs.declared.kinds.Kind.TheVariants.{Boolean, Character, Inte
 use Rattle.types.specs.declared.kinds.Shape.TheVariants.{Scalar, Vector, Interval}
 use Rattle.types.specs.declared.typing.Typing.{Typing}
 use Rattle.types.specs.Types.{same_shape}
-use Rattle.types.specs.Typings.{typing, is, of, flat, alone, matches}
+use Rattle.types.specs.Typings.{is, of, flat, alone, matches}
 use Rattle.source.specs.declared.state.ReadValue.{ReadValue}
 use Rattle.source.specs.Taking.{counted, gone}
 use Rattle.fault.specs.declared.causes.Cause.{Cause}
 use Rattle.fault.specs.declared.causes.Cause.TheVariants.{SizesDiffer, Disordered, NoRule}
 use Rattle.fault.specs.declared.faults.Fault.{Fault}
-use Rattle.instruction.specs.declared.instructions.Start.{Start}
-use Rattle.instruction.specs.declared.instructions.Start.TheVariants.{Nulls, Value as Given}
 use Rattle.instruction.specs.declared.instructions.Change.{Change as Changes}
 use Rattle.instruction.specs.declared.instructions.Change.TheVariants as change
 use Rattle.instruction.specs.declared.instructions.Control.{Control as Turn}
@@ -105,9 +103,9 @@ module _ (W p line : ℕ) (s : State) where
   refills i (gives v) = onward (refilled W s i v)
   refills i (faults c element) = stops c element
 
-  abbrev pub begins : Typing → Start → Step
-  begins w Nulls = declares (outcome W (nulls w))
-  begins w (Given a) = declares (by1 W value a (declared w))
+  abbrev pub begins : Typing → Option ℕ → Step
+  begins w None = declares (outcome W (nulls w))
+  begins w (Some a) = declares (by1 W value a (declared w))
 
   -- ---- print, read, return
   abbrev pub writes : List ℕ → Step
@@ -132,7 +130,7 @@ module _ (W p line : ℕ) (s : State) where
       (cond (matches head (exactly v)) (step (Ok Return) s) (stops SizesDiffer 0)) stuck
 
   abbrev pub changes : Typing → Changes → Step
-  changes head (change.Declare k x r s v) = begins (typing k x r s) v
+  changes head (change.Declare w v) = begins w v
   changes head (change.Assign i a) = refills i (by2 W value i a assigned)
   changes head (change.Store i b c) = refills i (by3 W value i b c stored_at)
   changes head (change.StoreTwo i b c d) = refills i (with (value i) (λ v. by3 W value b c d (stored_at_two v)))

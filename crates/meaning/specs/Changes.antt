@@ -2,7 +2,6 @@
 use Rattle.std.specs.Prelude.{ℕ, ◌+◌, ◌*◌, Bool, true, cond, not, ◌&&◌, ◌||◌, List, [], ◌∷◌, replicate, Some, None, Ok, Option, ◌==◌, slice_index_or, slice_set}
 use Rattle.types.specs.declared.kinds.Kind.TheVariants.{Integer}
 use Rattle.types.specs.declared.kinds.Shape.TheVariants.{Scalar, Vector, Matrix}
-use Rattle.types.specs.declared.kinds.Size.TheVariants.{Known}
 use Rattle.types.specs.declared.typing.Typing.{Typing}
 use Rattle.types.specs.Types.{same_shape, is_known, fits_in}
 use Rattle.types.specs.Typings.{is, of, alone, index, matches}
@@ -50,7 +49,7 @@ declared w v =
       ordered = alike w v || in_order v;
       counted = counted_for w v;
       layout = declared_layout w v;
-      agree = fill || (fits_in (Known v.layout.r) w.r && fits_in (Known (columns_for w v)) w.s);
+      agree = fill || (fits_in (Some v.layout.r) w.r && fits_in (Some (columns_for w v)) w.s);
       outside = None;
       elements = Ok (cond fill (replicate (area (declared_layout w v)) (slice_index_or (elements_of w.kind v) 0 (null_of w.kind))) (
           resized (null_of w.kind) (declared_layout w v).r (declared_layout w v).s (rows_of v.layout.r (columns_for w v) (items_for w v))));

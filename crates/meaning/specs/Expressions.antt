@@ -1,15 +1,13 @@
 -- What each expression row gives.
-use Rattle.std.specs.Prelude.{ℕ, ◌+◌, max, Bool, true, cond, not, ◌&&◌, ◌||◌, List, [], ◌∷◌, ◌++◌, map, reverse, ℤ, pos, None, Ok, Option, Result, ◌==◌, int_le}
+use Rattle.std.specs.Prelude.{ℕ, ◌+◌, max, Bool, true, cond, not, ◌&&◌, ◌||◌, List, [], ◌∷◌, ◌++◌, map, reverse, ℤ, pos, None, Ok, Option, Result, ◌==◌, int_le, Some}
 use Rattle.types.specs.declared.kinds.Kind.{Kind}
 use Rattle.types.specs.declared.kinds.Kind.TheVariants.{Boolean, Character, Integer}
 use Rattle.types.specs.declared.kinds.Shape.{Shape}
 use Rattle.types.specs.declared.kinds.Shape.TheVariants.{Scalar, Vector, Matrix, Interval}
-use Rattle.types.specs.declared.kinds.Size.{Size}
-use Rattle.types.specs.declared.kinds.Size.TheVariants.{Open, Known}
-use Rattle.types.specs.Types.{is_known, exactly as exact_size}
+use Rattle.types.specs.Types.{Size, is_known, exactly as exact_size}
 use Rattle.types.specs.Typings.{is, of, flat, alone, index, pairs, matches_spread}
-use Rattle.arithmetic.specs.declared.operators.Prefix.{Prefix}
-use Rattle.arithmetic.specs.declared.operators.Prefix.TheVariants.{Minus, Not}
+use Rattle.instruction.specs.declared.instructions.Prefix.{Prefix}
+use Rattle.instruction.specs.declared.instructions.Prefix.TheVariants.{Minus, Not}
 use Rattle.arithmetic.specs.declared.integers.Arithmetic.{Arithmetic}
 use Rattle.arithmetic.specs.declared.truths.Order.{Order}
 use Rattle.arithmetic.specs.declared.truths.Logic.{Logic}
@@ -223,8 +221,8 @@ measured Single a = simple (is Scalar (exactly a)) (vector_of a.layout.kind 1) (
 
 -- a written size, or else n
 abbrev pub size_or : Size → ℕ → ℕ
-size_or Open n = n
-size_or (Known m) n = m
+size_or None n = n
+size_or (Some m) n = m
 
 -- sizes are written, and a vector stays one row
 abbrev pub resized_to : Size → Size → Value → Plan

@@ -1,10 +1,9 @@
 -- Values: a layout, which is kind, shape and sizes, and elements. When a layout is lawful at a width.
-use Rattle.std.specs.Prelude.{ℕ, ◌*◌, Bool, false, ◌&&◌, List, [], ℤ, pos, slice_index_or}
+use Rattle.std.specs.Prelude.{ℕ, ◌*◌, Bool, false, ◌&&◌, List, [], ℤ, pos, slice_index_or, Some}
 use Rattle.types.specs.declared.kinds.Kind.{Kind}
 use Rattle.types.specs.declared.kinds.Kind.TheVariants.{Boolean, Character, Integer}
 use Rattle.types.specs.declared.kinds.Shape.{Shape}
 use Rattle.types.specs.declared.kinds.Shape.TheVariants.{Scalar, Vector}
-use Rattle.types.specs.declared.kinds.Size.TheVariants.{Known}
 use Rattle.types.specs.declared.typing.Typing.{Typing}
 use Rattle.types.specs.Types.{room}
 use Rattle.types.specs.Typings.{typing, type_fits}
@@ -38,15 +37,15 @@ area f = f.r * f.s
 
 -- the typing that knows all of it
 abbrev pub known : Layout → Typing
-known f = typing f.kind f.shape (Known f.r) (Known f.s)
+known f = typing f.kind f.shape (Some f.r) (Some f.s)
 
 -- the sizes that its shape fixes are so, and an interval is of integers
 abbrev pub fixed : Layout → Bool
-fixed f = type_fits f.kind f.shape (Known f.r) (Known f.s)
+fixed f = type_fits f.kind f.shape (Some f.r) (Some f.s)
 
 -- rows, columns and elements are at most the width
 abbrev pub within : ℕ → ℕ → ℕ → Bool
-within W r s = room W (Known r) (Known s)
+within W r s = room W (Some r) (Some s)
 
 -- a value of this layout may exist at width W
 abbrev pub lawful : ℕ → Layout → Bool

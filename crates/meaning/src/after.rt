@@ -1,7 +1,7 @@
 //! What follows a worked row.
 
 /// Where a sheet goes on once a row is worked.
-#[derive(Clone, Copy)]
+#[derive(Clone, Copy, Debug, PartialEq, Eq)]
 pub enum After {
     /// At this row.
     Row(usize),

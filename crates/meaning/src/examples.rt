@@ -2,8 +2,6 @@
 ghost use Rattle.meaning.specs.Examples.{Examples};
 
 /// The worked examples hold of the definitions that the rows are proved to keep.
-pub fn worked_examples() -> u8
+pub fn worked_examples()
     ensures { Examples }
-{
-    0
-}
+{}

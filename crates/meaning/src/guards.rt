@@ -10,13 +10,14 @@ use crate::lookup::layout_at;
 use crate::places::Place;
 use crate::slips::Slip;
 use fault::{Cause, Fault};
+use rules::need;
 
 impl Place {
     /// The first cell of row i.
     pub fn start_of(self, i: u16) -> usize
         ensures { result ≡ i * self.width }
     {
-        i as usize * self.width as usize
+        usize::from(i) * usize::from(self.width)
     }
 
     /// The fault of this row, at an element.
@@ -36,19 +37,13 @@ impl Place {
         ensures is { result ≡ found self (layout_at self.width slips.now i) }
         ensures lawful { IfOk result (λ f. lawful self.width f ≡ true) }
     {
-        match layout_at(slips, i as usize, self.width) {
-            Some(layout) => Ok(layout),
-            None => Err(self.fault(Cause::NoRule, 0)),
-        }
+        layout_at(slips, usize::from(i), self.width).ok_or(self.fault(Cause::NoRule, 0))
     }
 
     fn is_fitting(self, counted: Option<usize>, layout: Layout) -> bool
         ensures { result ≡ fits self.width counted layout }
     {
-        match counted {
-            None => layout.is_within(self.width),
-            Some(n) => n <= self.width as usize && layout.is_within(self.width),
-        }
+        counted.is_none_or(|n| n <= usize::from(self.width)) && layout.is_within(self.width)
     }
 
     /// The layout, where every test passes: kinds and shapes have a rule, bounds are in order, what is counted and the layout
@@ -64,18 +59,13 @@ impl Place {
         ensures is { result ≡ guards self ruled ordered counted layout agree }
         ensures within { IfOk result (λ f. within self.width f.r f.s ≡ true) }
     {
-        if !ruled {
-            return Err(self.fault(Cause::NoRule, 0));
-        }
-        if !ordered {
-            return Err(self.fault(Cause::Disordered, 0));
-        }
-        if !self.is_fitting(counted, layout) {
-            return Err(self.fault(Cause::Beyond, 0));
-        }
-        if !agree {
-            return Err(self.fault(Cause::SizesDiffer, 0));
-        }
+        need(ruled, self.fault(Cause::NoRule, 0))?;
+        need(ordered, self.fault(Cause::Disordered, 0))?;
+        need(
+            self.is_fitting(counted, layout),
+            self.fault(Cause::Beyond, 0),
+        )?;
+        need(agree, self.fault(Cause::SizesDiffer, 0))?;
         Ok(layout)
     }
 }

@@ -12,26 +12,14 @@ pub fn layout_at(slips: &[Slip], i: usize, width: u16) -> Option<Layout>
     ensures is { result ≡ layout_at width slips.now i }
     ensures lawful { IfSome result (λ f. lawful width f ≡ true) }
 {
-    if i >= slips.len() {
-        return None;
-    }
-    let slip = slips[i];
-    match slip.kind {
-        None => None,
-        Some(kind) => {
-            let layout = Layout {
-                kind,
-                shape: slip.shape,
-                r: slip.r as usize,
-                s: slip.s as usize,
-            };
-            if layout.is_lawful(width) {
-                Some(layout)
-            } else {
-                None
-            }
-        }
-    }
+    let slip = slips.get(i)?;
+    let layout = Layout {
+        kind: slip.kind?,
+        shape: slip.shape,
+        r: usize::from(slip.r),
+        s: usize::from(slip.s),
+    };
+    layout.is_lawful(width).then_some(layout)
 }
 
 impl Slip {

@@ -1,11 +1,11 @@
 //! What a layout says of a value.
 ghost use Rattle.std.specs.Prelude.{◌≡◌, ℕ, ◌*◌, ◌≤◌, true};
 ghost use Rattle.meaning.specs.Values.{scalar_of, vector_of, area, known, fixed, within, lawful};
-ghost use Rattle.types.specs.declared.kinds.Size.TheVariants.{Open};
+ghost use Rattle.types.specs.Types.{same_kind, same_shape};
 ghost use Rattle.types.specs.Typings.{typing as typing_of, matches, matches_spread};
 
 use crate::layouts::Layout;
-use types::{Kind, Shape, Size, Typing};
+use types::{Kind, Shape, Typing};
 
 impl Layout {
     /// The layout of a scalar.
@@ -32,6 +32,20 @@ impl Layout {
         }
     }
 
+    /// Whether it has this shape.
+    pub fn is(self, shape: Shape) -> bool
+        ensures { result ≡ same_shape shape self.shape }
+    {
+        shape == self.shape
+    }
+
+    /// Whether it is of this kind.
+    pub fn is_of(self, kind: Kind) -> bool
+        ensures { result ≡ same_kind kind self.kind }
+    {
+        kind == self.kind
+    }
+
     /// Whether it has the sizes that its shape fixes, and an interval is of integers.
     fn has_fixed_sizes(self) -> bool
         ensures { result ≡ fixed self }
@@ -40,10 +54,7 @@ impl Layout {
             Shape::Scalar => self.r == 1 && self.s == 1,
             Shape::Vector => self.r == 1,
             Shape::Matrix => true,
-            Shape::Interval => match self.kind {
-                Kind::Boolean | Kind::Character => false,
-                Kind::Integer => self.r == 1 && self.s == 2,
-            },
+            Shape::Interval => self.is_of(Kind::Integer) && self.r == 1 && self.s == 2,
         }
     }
 
@@ -51,7 +62,7 @@ impl Layout {
     pub fn is_within(self, width: u16) -> bool
         ensures { result ≡ within width self.r self.s }
     {
-        let width = width as usize;
+        let width = usize::from(width);
         self.r <= width && self.s <= width && self.r * self.s <= width
     }
 
@@ -73,13 +84,13 @@ impl Layout {
 
     /// Its kind and shape alone, as a typing.
     pub fn typing(self) -> Typing
-        ensures { result ≡ typing_of self.kind self.shape Open Open }
+        ensures { result ≡ typing_of self.kind self.shape None None }
     {
         Typing {
             kind: self.kind,
             shape: self.shape,
-            r: Size::Open,
-            s: Size::Open,
+            r: None,
+            s: None,
         }
     }
 
@@ -94,6 +105,6 @@ impl Layout {
     pub fn matches_spread(self, other: Layout) -> bool
         ensures { result ≡ matches_spread (known self) (known other) }
     {
-        Shape::Scalar.same(self.shape) || Shape::Scalar.same(other.shape) || self.matches(other)
+        self.is(Shape::Scalar) || other.is(Shape::Scalar) || self.matches(other)
     }
 }

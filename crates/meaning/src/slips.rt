@@ -2,7 +2,7 @@
 use types::{Kind, Shape};
 
 /// What a row's cells hold now. A host lends the slips, and may have written anything into them.
-#[derive(Clone, Copy)]
+#[derive(Clone, Copy, Debug, PartialEq, Eq)]
 pub struct Slip {
     /// The kind of the row's value; none where the slip is blank.
     pub kind: Option<Kind>,

@@ -4,19 +4,15 @@ use Rattle.std.specs.Prelude.{ℕ, Bool, true, false, cond, not, ◌&&◌, ◌||
 use Rattle.types.specs.declared.kinds.Kind.{Kind}
 use Rattle.types.specs.declared.kinds.Kind.TheVariants.{Boolean, Integer}
 use Rattle.types.specs.declared.kinds.Shape.TheVariants.{Scalar, Vector, Matrix, Interval}
-use Rattle.types.specs.declared.kinds.Size.{Size}
-use Rattle.types.specs.declared.kinds.Size.TheVariants.{Open, Known}
 use Rattle.types.specs.declared.typing.Typing.{Typing}
 use Rattle.rules.specs.declared.refusal.Refusal.{Refusal}
 use Rattle.rules.specs.declared.refusal.Refusal.TheVariants.{Unfit, Sizes}
-use Rattle.arithmetic.specs.declared.operators.Prefix.{Prefix}
-use Rattle.arithmetic.specs.declared.operators.Prefix.TheVariants.{Minus, Not}
+use Rattle.instruction.specs.declared.instructions.Prefix.{Prefix}
+use Rattle.instruction.specs.declared.instructions.Prefix.TheVariants.{Minus, Not}
 use Rattle.instruction.specs.declared.instructions.Infix.{Infix}
 use Rattle.instruction.specs.declared.instructions.Infix.TheVariants as family
 use Rattle.instruction.specs.declared.instructions.Measure.{Measure as Asked}
 use Rattle.instruction.specs.declared.instructions.Measure.TheVariants.{Length, Rows, Columns, Reverse, Single}
-use Rattle.instruction.specs.declared.instructions.Start.{Start}
-use Rattle.instruction.specs.declared.instructions.Start.TheVariants.{Nulls, Value}
 use Rattle.instruction.specs.declared.instructions.Expression.{Expression as Make}
 use Rattle.instruction.specs.declared.instructions.Expression.TheVariants as make
 use Rattle.instruction.specs.declared.instructions.Change.{Change as Changes}
@@ -25,7 +21,7 @@ use Rattle.instruction.specs.declared.instructions.Control.{Control as Turn}
 use Rattle.instruction.specs.declared.instructions.Control.TheVariants as control
 use Rattle.instruction.specs.declared.instructions.Instruction.{Instruction}
 use Rattle.instruction.specs.declared.instructions.Instruction.TheVariants.{Expression, Change, Control}
-use Rattle.types.specs.Types.{same_shape, exactly, is_known, agree, fits_in, or_else, plus, larger, room}
+use Rattle.types.specs.Types.{Size, same_shape, exactly, is_known, agree, fits_in, or_else, plus, larger, room}
 use Rattle.types.specs.Typings.{typing, scalar, vector, matrix, interval, is, of, flat, alone, index, pairs, span, matches, matches_spread, spread}
 
 -- the note of a row, nothing for most statements, or the rule that it breaks
@@ -75,7 +71,7 @@ product_rule w t u =
     (cond (is Vector t) (dot_rule t u) (matrix_rule w t u))
 
 abbrev pub by_rule : Typing → Typing → Judged
-by_rule t u = unless ((is Vector t || is Interval t) && alone Integer u) Unfit (value (vector t.kind Open))
+by_rule t u = unless ((is Vector t || is Interval t) && alone Integer u) Unfit (value (vector t.kind None))
 
 abbrev pub infix_rule : ℕ → Infix → Typing → Typing → Judged
 infix_rule w (family.Arithmetic o) t u = elementwise w Integer Integer t u
@@ -90,7 +86,7 @@ abbrev pub interval_rule : Typing → Typing → Judged
 interval_rule t u = unless (alone Integer t && alone Integer u) Unfit (value interval)
 
 abbrev pub stack_rule : ℕ → Typing → Typing → Judged
-stack_rule w t u = unless (of t.kind u && ((is Vector t || is Matrix t) && is Vector u)) Unfit (sized w (matrix t.kind (plus t.r (Known 1)) (larger t.s u.s)))
+stack_rule w t u = unless (of t.kind u && ((is Vector t || is Matrix t) && is Vector u)) Unfit (sized w (matrix t.kind (plus t.r (Some 1)) (larger t.s u.s)))
 
 abbrev pub pick_rule : Typing → Typing → Judged
 pick_rule t u = unless (is Vector t && index u) Unfit (value (cond (is Scalar u) (scalar t.kind) (vector t.kind (span u))))
@@ -108,7 +104,7 @@ measure_rule Length t = unless (is Vector t) Unfit (value (scalar Integer))
 measure_rule Rows t = unless (is Matrix t) Unfit (value (scalar Integer))
 measure_rule Columns t = unless (is Matrix t) Unfit (value (scalar Integer))
 measure_rule Reverse t = unless (is Vector t) Unfit (value t)
-measure_rule Single t = unless (is Scalar t) Unfit (value (vector t.kind (Known 1)))
+measure_rule Single t = unless (is Scalar t) Unfit (value (vector t.kind (Some 1)))
 
 abbrev pub cast_rule : Kind → Typing → Judged
 cast_rule k t = unless (flat t) Unfit (value (typing k t.shape t.r t.s))
@@ -162,7 +158,7 @@ condition_rule t = unless (alone Boolean t) Unfit nothing
 module _ (w : ℕ) (result : Typing) (at : ℕ → Typing) where
   abbrev pub make_rule : Make → Judged
   make_rule (make.Literal k n) = value (scalar k)
-  make_rule (make.Empty k) = value (vector k (Known 0))
+  make_rule (make.Empty k) = value (vector k (Some 0))
   make_rule (make.Variable v) = value (at v)
   make_rule (make.Prefix o a) = prefix_rule o (at a)
   make_rule (make.Infix o a b) = infix_rule w o (at a) (at b)
@@ -175,12 +171,12 @@ module _ (w : ℕ) (result : Typing) (at : ℕ → Typing) where
   make_rule (make.Resize a r s) = resize_rule w r s (at a)
   make_rule make.State = value (scalar Integer)
 
-  abbrev pub start_rule : Typing → Start → Judged
-  start_rule t Nulls = nulls_rule w t
-  start_rule t (Value a) = declare_rule w t (at a)
+  abbrev pub start_rule : Typing → Option ℕ → Judged
+  start_rule t None = nulls_rule w t
+  start_rule t (Some a) = declare_rule w t (at a)
 
   abbrev pub change_rule : Changes → Judged
-  change_rule (change.Declare k x r s v) = start_rule (typing k x r s) v
+  change_rule (change.Declare t v) = start_rule t v
   change_rule (change.Assign v a) = assign_rule (at v) (at a)
   change_rule (change.Store v b c) = store_rule (at v) (at b) (at c)
   change_rule (change.StoreTwo v b c d) = store_two_rule (at v) (at b) (at c) (at d)

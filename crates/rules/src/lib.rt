@@ -8,3 +8,4 @@ mod sizing;
 pub mod statements;
 
 pub use refusal::Refusal;
+pub use sizing::{Judged, need};

@@ -6,53 +6,37 @@ ghost use Rattle.types.specs.Typings.{is, of};
 ghost use Rattle.rules.specs.Rules.{prefix_rule, elementwise, equality_rule, joins, join_rule, dot_rule, matrix_rule, product_rule, by_rule, infix_rule};
 
 use crate::refusal::Refusal;
-use crate::sizing::sized;
-use arithmetic::operators::Prefix;
-use instruction::Infix;
-use types::{Kind, Shape, Size, Typing};
+use crate::sizing::{Judged, need, sized};
+use instruction::{Infix, Prefix};
+use types::sizes::{agree, plus};
+use types::{Kind, Shape, Typing};
 
 /// Minus of integers, not of booleans.
-pub fn prefix(operation: Prefix, t: Typing) -> Result<Option<Typing>, Refusal>
+pub fn prefix(operation: Prefix, t: Typing) -> Judged
     ensures { result ≡ prefix_rule operation t }
 {
-    let fits = match operation {
-        Prefix::Minus => t.is_of(Kind::Integer) && t.is_flat(),
-        Prefix::Not => t.is_of(Kind::Boolean) && t.is_flat(),
+    let kind = match operation {
+        Prefix::Minus => Kind::Integer,
+        Prefix::Not => Kind::Boolean,
     };
-    if fits {
-        Ok(Some(t))
-    } else {
-        Err(Refusal::Unfit)
-    }
+    need(t.is_of(kind) && t.is_flat(), Refusal::Unfit)?;
+    Ok(Some(t))
 }
 
-fn work_each(
-    width: u16,
-    from: Kind,
-    to: Kind,
-    t: Typing,
-    u: Typing,
-) -> Result<Option<Typing>, Refusal>
+fn work_each(width: u16, from: Kind, to: Kind, t: Typing, u: Typing) -> Judged
     ensures { result ≡ elementwise width from to t u }
 {
-    if !(t.is_of(from) && u.is_of(from) && t.pairs(u)) {
-        return Err(Refusal::Unfit);
-    }
-    if !t.matches_spread(u) {
-        return Err(Refusal::Sizes);
-    }
+    need(t.is_of(from) && u.is_of(from) && t.pairs(u), Refusal::Unfit)?;
+    need(t.matches_spread(u), Refusal::Sizes)?;
     sized(width, t.spread(u, to))
 }
 
-fn equality(t: Typing, u: Typing) -> Result<Option<Typing>, Refusal>
+fn equality(t: Typing, u: Typing) -> Judged
     ensures { result ≡ equality_rule t u }
 {
-    if !(u.is_of(t.kind) && (t.pairs(u) || t.is(Shape::Interval) && u.is(Shape::Interval))) {
-        return Err(Refusal::Unfit);
-    }
-    if !t.matches_spread(u) {
-        return Err(Refusal::Sizes);
-    }
+    let paired = t.pairs(u) || t.is(Shape::Interval) && u.is(Shape::Interval);
+    need(u.is_of(t.kind) && paired, Refusal::Unfit)?;
+    need(t.matches_spread(u), Refusal::Sizes)?;
     Ok(Some(Typing::scalar(Kind::Boolean)))
 }
 
@@ -62,36 +46,29 @@ fn is_joined(t: Typing) -> bool
     t.is(Shape::Scalar) || t.is(Shape::Vector)
 }
 
-fn join(width: u16, t: Typing, u: Typing) -> Result<Option<Typing>, Refusal>
+fn join(width: u16, t: Typing, u: Typing) -> Judged
     ensures { result ≡ join_rule width t u }
 {
-    if !(u.is_of(t.kind) && is_joined(t) && is_joined(u)) {
-        return Err(Refusal::Unfit);
-    }
-    match t.s.plus(u.s) {
-        None => Err(Refusal::Sizes),
-        Some(s) => sized(width, Typing::vector(t.kind, s)),
-    }
+    need(
+        u.is_of(t.kind) && is_joined(t) && is_joined(u),
+        Refusal::Unfit,
+    )?;
+    let s = plus(t.s, u.s).ok_or(Refusal::Sizes)?;
+    sized(width, Typing::vector(t.kind, s))
 }
 
-fn dot(t: Typing, u: Typing) -> Result<Option<Typing>, Refusal>
+fn dot(t: Typing, u: Typing) -> Judged
     ensures { result ≡ dot_rule t u }
 {
-    if t.s.agrees(u.s) {
-        Ok(Some(Typing::scalar(Kind::Integer)))
-    } else {
-        Err(Refusal::Sizes)
-    }
+    need(agree(t.s, u.s), Refusal::Sizes)?;
+    Ok(Some(Typing::scalar(Kind::Integer)))
 }
 
-fn matrix_product(width: u16, t: Typing, u: Typing) -> Result<Option<Typing>, Refusal>
+fn matrix_product(width: u16, t: Typing, u: Typing) -> Judged
     ensures { result ≡ matrix_rule width t u }
 {
-    if t.s.agrees(u.r) {
-        sized(width, Typing::matrix(Kind::Integer, t.r, u.s))
-    } else {
-        Err(Refusal::Sizes)
-    }
+    need(agree(t.s, u.r), Refusal::Sizes)?;
+    sized(width, Typing::matrix(Kind::Integer, t.r, u.s))
 }
 
 fn is_product(t: Typing, u: Typing) -> bool
@@ -103,12 +80,10 @@ fn is_product(t: Typing, u: Typing) -> bool
             || t.is(Shape::Matrix) && u.is(Shape::Matrix))
 }
 
-fn product(width: u16, t: Typing, u: Typing) -> Result<Option<Typing>, Refusal>
+fn product(width: u16, t: Typing, u: Typing) -> Judged
     ensures { result ≡ product_rule width t u }
 {
-    if !is_product(t, u) {
-        return Err(Refusal::Unfit);
-    }
+    need(is_product(t, u), Refusal::Unfit)?;
     if t.is(Shape::Vector) {
         dot(t, u)
     } else {
@@ -116,18 +91,16 @@ fn product(width: u16, t: Typing, u: Typing) -> Result<Option<Typing>, Refusal>
     }
 }
 
-fn by(t: Typing, u: Typing) -> Result<Option<Typing>, Refusal>
+fn by(t: Typing, u: Typing) -> Judged
     ensures { result ≡ by_rule t u }
 {
-    if (t.is(Shape::Vector) || t.is(Shape::Interval)) && u.is_alone(Kind::Integer) {
-        Ok(Some(Typing::vector(t.kind, Size::Open)))
-    } else {
-        Err(Refusal::Unfit)
-    }
+    let listed = t.is(Shape::Vector) || t.is(Shape::Interval);
+    need(listed && u.is_alone(Kind::Integer), Refusal::Unfit)?;
+    Ok(Some(Typing::vector(t.kind, None)))
 }
 
 /// An operator on two values.
-pub fn infix(width: u16, operation: Infix, t: Typing, u: Typing) -> Result<Option<Typing>, Refusal>
+pub fn infix(width: u16, operation: Infix, t: Typing, u: Typing) -> Judged
     ensures { result ≡ infix_rule width operation t u }
 {
     match operation {

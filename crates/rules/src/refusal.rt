@@ -2,10 +2,11 @@
 ghost use Rattle.std.specs.Prelude.{◌≡◌};
 ghost use Rattle.rules.specs.Refusals.{refusal_number};
 
+use std::error::Error;
 use std::fmt;
 
 /// The rule that a row breaks. Of several, the one with the smallest number is told.
-#[derive(Clone, Copy, Debug, PartialEq)]
+#[derive(Clone, Copy, Debug, PartialEq, Eq)]
 pub enum Refusal {
     /// The room is too short; this is of no row.
     NoRoom,
@@ -23,12 +24,12 @@ pub enum Refusal {
     Sizes,
 }
 
-impl Refusal {
-    /// The number of this refusal.
-    pub fn number(self) -> u16
-        ensures { result ≡ refusal_number self }
-    {
-        match self {
+/// The number of a refusal, as hosts are told it.
+impl From<Refusal> for u16 {
+    ghost from_gives = { λ e n. n ≡ refusal_number e };
+
+    fn from(value: Refusal) -> u16 {
+        match value {
             Refusal::NoRoom => 4,
             Refusal::Form => 5,
             Refusal::Operand => 6,
@@ -78,3 +79,5 @@ impl fmt::Display for Refusal {
         }
     }
 }
+
+impl Error for Refusal {}

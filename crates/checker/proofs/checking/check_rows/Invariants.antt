@@ -4,4 +4,4 @@ use Rattle.checker.proofs.Checks.{Checking}
 use Rattle.checker.proofs.checking.check_rows.Given as goal
 
 abbrev pub invariant-loop-p : goal.invariant-loop-p
-invariant-loop-p l = Checking l.width l.result_type l.rows (vec_items l.lines) (open_rows l.blocks) l.start l.p × (vec_capacity l.lines ≡ vec_capacity l.initial.lines)
+invariant-loop-p l = Checking l.head.width l.head.result l.rows (vec_items l.lines) (open_rows l.blocks) l.start l.p × (vec_capacity l.lines ≡ vec_capacity l.initial.lines)
