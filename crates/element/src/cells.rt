@@ -29,11 +29,11 @@ pub fn spread<E: Element>(table: &mut [E], value: E, to: usize, n: usize)
 pub fn resize<E: Element>(table: &mut [E], from: usize, have: usize, to: usize, want: usize)
     requires below { from + have ≤ to }
     requires within { to + want ≤ length table.old }
-    ensures { table.new ≡ put table.old to (padded E.Element.null want (cells table.old from have)) }
+    ensures { table.new ≡ put table.old to (padded E.Element.NULL want (cells table.old from have)) }
 {
     let kept = if have < want { have } else { want };
     copy(table, from, kept, to);
-    spread(table, E::null_element(), to + kept, want - kept);
+    spread(table, E::NULL, to + kept, want - kept);
 }
 
 /// Writes the vector backward.

@@ -11,7 +11,7 @@ pub fn equal<E: Element>(table: &[E], a: usize, b: usize, n: usize) -> bool
     ensures { Decides result (cells table.now a n ≡ cells table.now b n) }
 {
     for i in 0..n {
-        if !table[a + i].same(table[b + i]) {
+        if table[a + i] != table[b + i] {
             return false;
         }
     }
@@ -24,7 +24,7 @@ pub fn equal_throughout<E: Element>(table: &[E], at: usize, n: usize, value: E) 
     ensures { Decides result (cells table.now at n ≡ replicate n value) }
 {
     for i in 0..n {
-        if !table[at + i].same(value) {
+        if table[at + i] != value {
             return false;
         }
     }

@@ -1,5 +1,5 @@
 //! Integers as elements: 32 bits, which print as decimals.
-ghost use Rattle.std.proofs.Common.{lit≤};
+ghost use Rattle.std.proofs.Common.{lit≤, rules};
 ghost use Rattle.std.specs.Prelude.{pos};
 ghost use Rattle.types.specs.declared.kinds.Kind.TheVariants.{Integer};
 ghost use Rattle.element.specs.Elements.{integer_text};
@@ -12,35 +12,23 @@ use types::Kind;
 impl Element for i32 {
     const NULL: i32 = 0;
 
+    ghost NULL = { pos 0 };
+
     const LONGEST: usize = 11;
 
-    ghost null = { pos 0 };
+    ghost LONGEST = { 11 };
 
-    ghost longest = { 11 };
+    const KIND: Kind = Kind::Integer;
 
-    ghost kind_of = { Integer };
+    ghost KIND = { Integer };
 
     ghost text = { integer_text };
+
+    ghost same = { Prim.search rules };
 
     ghost narrow = { lit≤ tt };
 
     ghost brief = { integer_brief };
-
-    fn null_element() -> i32 {
-        Self::NULL
-    }
-
-    fn longest_text() -> usize {
-        Self::LONGEST
-    }
-
-    fn kind() -> Kind {
-        Kind::Integer
-    }
-
-    fn same(self, other: i32) -> bool {
-        self == other
-    }
 
     fn text_len(self) -> usize {
         let digits = digit_count(self.unsigned_abs());

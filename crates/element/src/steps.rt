@@ -20,7 +20,7 @@ pub fn step_by<E: Element>(table: &mut [E], from: usize, n: usize, step: usize, 
     requires fits { n + step < 2 ^ 64 }
     requires below { from + n ≤ to }
     requires within { to + step_count n step ≤ length table.old }
-    ensures { table.new ≡ put table.old to (stepped E.Element.null step (cells table.old from n)) }
+    ensures { table.new ≡ put table.old to (stepped E.Element.NULL step (cells table.old from n)) }
 {
     let count = step_count(n, step);
     for k in 0..count {

@@ -15,7 +15,7 @@ resize-requires g c = let h = row_below c.args.k c.args.r c.args.s c.args.s c.if
 pub returns-then-k-r : goal.returns-then-k-r
 returns-then-k-r g c =
     let a = c.args in
-    c.resize.ensures ∙ ap (λ xs. put a.table.now a.to (padded g.E.Element.null a.want xs)) (sym (row_of a.table.now a.from a.r a.s a.k c.if-k-r.true))
+    c.resize.ensures ∙ ap (λ xs. put a.table.now a.to (padded g.E.Element.NULL a.want xs)) (sym (row_of a.table.now a.from a.r a.s a.k c.if-k-r.true))
 
 pub returns-else-k-r : goal.returns-else-k-r
 returns-else-k-r g c =
