@@ -24,6 +24,10 @@ impl Element for bool {
 
     ghost same = { Prim.search rules };
 
+    ghost infallible = { Prim.search rules };
+
+    ghost exact = { Prim.search rules };
+
     ghost narrow = { lit≤ tt };
 
     ghost brief = { λ _. lit≤ tt };

@@ -11,11 +11,7 @@ use types::Kind;
 fn byte_of(character: i8) -> u8
     ensures { result ≡ byte_of character }
 {
-    if character < 0 {
-        (256 + character as i16) as u8
-    } else {
-        character as u8
-    }
+    character.cast_unsigned()
 }
 
 impl Element for i8 {
@@ -34,6 +30,10 @@ impl Element for i8 {
     ghost text = { character_text };
 
     ghost same = { Prim.search rules };
+
+    ghost infallible = { Prim.search rules };
+
+    ghost exact = { Prim.search rules };
 
     ghost narrow = { lit≤ tt };
 

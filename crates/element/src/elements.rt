@@ -38,6 +38,11 @@ pub trait Element: Copy + Eq {
     // `==` answers whether the two are one element
     ghost same: { (x y : Self) → Decides (Self.eq x y) (x ≡ y) };
 
+    // a clone does not fail, and is the element itself
+    ghost infallible: { (x : Self) → Self.is_infallible x };
+
+    ghost exact: { (x y : Self) → Self.is_clone x y → y ≡ x };
+
     // so that lengths of texts can be added up
     ghost narrow: { LONGEST ≤ 255 };
 

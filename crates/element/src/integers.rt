@@ -26,6 +26,10 @@ impl Element for i32 {
 
     ghost same = { Prim.search rules };
 
+    ghost infallible = { Prim.search rules };
+
+    ghost exact = { Prim.search rules };
+
     ghost narrow = { lit≤ tt };
 
     ghost brief = { integer_brief };
