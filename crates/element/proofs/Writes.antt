@@ -73,15 +73,6 @@ module _ {X : Type 0} where
   pub length_padded : (blank : X) (n : ℕ) (xs : List X) → length (padded blank n xs) ≡ n
   length_padded blank n xs = simp (length-append, length-take, length-replicate) (omega arith)
 
-  -- what stands past the end of xs is `blank`
-  pub get_or_padded : (blank : X) (n : ℕ) (xs : List X) (k : ℕ) (d : X) → k < n → get_or (padded blank n xs) k d ≡ get_or xs k blank
-  get_or_padded blank n xs k d h =
-      ⊎_elim
-      (λ (l : k < length xs). let m : k < length (take n xs) = simp length-take (omega arith) in get_or_append_left (take n xs) _ d k m ∙ get_or-take n xs k d h ∙ get_or_default xs k d blank l)
-      (λ (l : length xs ≤ k). let m : length (take n xs) ≡ length xs = simp length-take (omega arith) in
-      get_or-append_right (take n xs) _ (length xs) k d m l ∙ get_or-replicate (n - length xs) (k - length xs) blank d (omega arith) ∙ sym (get_or_past xs k blank l))
-      (cases_lt k (length xs))
-
   -- two writes, the second behind the first
   pub put_put : (T xs ys : List X) (to m : ℕ) → length xs ≡ m → to ≤ length T → put (put T to xs) (to + m) ys ≡ put T to (xs ++ ys)
   put_put T xs ys to m e h =

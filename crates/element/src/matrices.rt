@@ -41,6 +41,7 @@ pub fn resize_matrix<E: Element>(
     requires within { to + rows * columns ≤ length table.old }
     ensures { table.new ≡ put table.old to (resized E.Element.NULL rows columns (rows_of r s (cells table.old from (r * s)))) }
 {
+    // by the row's number: a row may be 0 cells wide, and `chunks_exact_mut` refuses that
     for k in 0..rows {
         resize_row(table, from, r, s, k, to + k * columns, columns);
     }

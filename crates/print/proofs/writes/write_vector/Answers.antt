@@ -2,9 +2,6 @@ use Rattle.std.proofs.Common.{arith, rules}
 use Rattle.print.proofs.Spaces.{begun, begun_more, begun_fits, begun_all, begun_end}
 use Rattle.print.proofs.writes.write_vector.Goals as goal
 
-pub loop-k-init : goal.loop-k-init
-loop-k-init g c = search (rules, begun)
-
 pub write_gap-start-requires : goal.write_gap-start-requires
 write_gap-start-requires g c =
     let fit = begun_fits g.E.Element.text c.args.vector.now _ _ c.args.from _ _ _ _ c.loop-k-test.true c.loop-k.invariant c.index-vector-k.is c.requires in search rules
@@ -19,9 +16,6 @@ loop-k-preserved g c =
 
 pub bounds-output-end : goal.bounds-output-end
 bounds-output-end g c = let all = begun_end _ _ _ _ c.args.from _ _ c.loop-k-test.false c.loop-k.invariant in search rules
-
-pub overflow_add-result : goal.overflow_add-result
-overflow_add-result g c = let all = begun_end _ _ _ _ c.args.from _ _ c.loop-k-test.false c.loop-k.invariant in search rules
 
 pub returns : goal.returns
 returns g c = search (rules, begun_all, begun_end)
