@@ -1,5 +1,5 @@
-use Rattle.std.proofs.Common.{arith, rules}
-use Rattle.print.proofs.Spaces.{begun_more, begun_fits, begun_all, begun_end}
+use Rattle.std.proofs.Common.{rules}
+use Rattle.print.proofs.Spaces.{begun_more, begun_fits, begun_all}
 use Rattle.print.proofs.writes.write_vector.Goals as goal
 
 pub write_gap-start-requires : goal.write_gap-start-requires
