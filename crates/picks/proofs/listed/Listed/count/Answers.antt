@@ -1,0 +1,4 @@
+use Rattle.picks.proofs.listed.Listed.count.Goals as goal
+
+pub returns : goal.returns
+returns g c = ?

@@ -1,8 +1,0 @@
-use Rattle.picks.specs.Indices.{indices_of}
-use Rattle.picks.proofs.Indexing.{all_inside}
-use Rattle.picks.proofs.picks.pick.Goals as goal
-
-pub pick_inside-requires : goal.pick_inside-requires
-pick_inside-requires g c =
-    let h = c.requires in
-    record { below = h.below; indices = h.indices; seen = h.seen; inside = all_inside 1 c.args.have (indices_of c.args.index (g.I.Integers.seen c.args.integers.now c.args.table.now)) c.in-None.ensures; within = h.within }
