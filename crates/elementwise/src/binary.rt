@@ -20,7 +20,7 @@ pub struct Between<F> {
 impl<X: Element, Y, F: Operator<X, Y>> Rule<X, Y> for Between<F> {
     ghost can = { λ s source k. (place_of s.a k < length source) × (place_of s.b k < length source) };
 
-    ghost gives = { λ s source k. F.Operator.gives s.op (slice_index_or source (place_of s.a k) X.Element.null) (slice_index_or source (place_of s.b k) X.Element.null) };
+    ghost gives = { λ s source k. F.Operator.gives s.op (slice_index_or source (place_of s.a k) X.Element.NULL) (slice_index_or source (place_of s.b k) X.Element.NULL) };
 
     fn cell(&self, source: &[X], k: usize) -> Y {
         let x = source[self.a.place(k)];
@@ -39,7 +39,7 @@ pub fn combine<S: Element, E: Element, F: Operator<S, E> + Copy>(
 )
     requires left { end_of a (length target.old) ≤ length source.now }
     requires right { end_of b (length target.old) ≤ length source.now }
-    ensures { target.new ≡ map2 (F.Operator.gives op) (along S.Element.null source.now a (length target.old)) (along S.Element.null source.now b (length target.old)) }
+    ensures { target.new ≡ map2 (F.Operator.gives op) (along S.Element.NULL source.now a (length target.old)) (along S.Element.NULL source.now b (length target.old)) }
 {
     make(source, target, &Between { op, a, b });
 }
@@ -54,7 +54,7 @@ pub fn try_combine<S: Element, E: Element, F: Operator<S, Result<E, ArithmeticFa
 ) -> Result<(), ElementFault>
     requires left { end_of a (length target.old) ≤ length source.now }
     requires right { end_of b (length target.old) ≤ length source.now }
-    ensures { Made (collected 1 (map2 (F.Operator.gives op) (along S.Element.null source.now a (length target.old)) (along S.Element.null source.now b (length target.old)))) result target.new }
+    ensures { Made (collected 1 (map2 (F.Operator.gives op) (along S.Element.NULL source.now a (length target.old)) (along S.Element.NULL source.now b (length target.old)))) result target.new }
 {
     try_make(source, target, &Between { op, a, b })
 }

@@ -16,7 +16,7 @@ pub struct Each<F> {
 impl<X: Element, Y, F: Function<X, Y>> Rule<X, Y> for Each<F> {
     ghost can = { λ s source k. k < length source };
 
-    ghost gives = { λ s source k. F.Function.gives s.of (slice_index_or source k X.Element.null) };
+    ghost gives = { λ s source k. F.Function.gives s.of (slice_index_or source k X.Element.NULL) };
 
     fn cell(&self, source: &[X], k: usize) -> Y {
         self.of.apply(source[k])

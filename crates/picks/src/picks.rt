@@ -16,7 +16,7 @@ fn pick_inside<E: Element, I: Integers<E>>(
 )
     requires inside { AllInside (length cells.now) list.now }
     requires alike { length target.old ≡ length list.now }
-    ensures { target.new ≡ picked E.Element.null cells.now list.now }
+    ensures { target.new ≡ picked E.Element.NULL cells.now list.now }
 {
     for (k, cell) in target.iter_mut().enumerate() {
         *cell = cells[list.place(k, cells.len())];
@@ -36,7 +36,7 @@ pub fn pick<E: Element, I: Integers<E>>(
     requires indices { IndexBelow index to }
     requires seen { IndexBelow index (length (I.Integers.seen integers.now table.old)) }
     requires within { to + index_count index ≤ length table.old }
-    ensures { PickLeaves E.Element.null table.old from have (indices_of index (I.Integers.seen integers.now table.old)) to result table.new }
+    ensures { PickLeaves E.Element.NULL table.old from have (indices_of index (I.Integers.seen integers.now table.old)) to result table.new }
 {
     let (below, rest) = table.split_at_mut(to);
     let source = &below[..];
@@ -59,7 +59,7 @@ fn cross_inside<E: Element, I: Integers<E>>(
     requires rows_inside { AllInside r rows.now }
     requires columns_inside { AllInside s columns.now }
     requires alike { length target.old ≡ length rows.now * length columns.now }
-    ensures { target.new ≡ crossed E.Element.null s cells.now rows.now columns.now }
+    ensures { target.new ≡ crossed E.Element.NULL s cells.now rows.now columns.now }
 {
     let width = columns.count();
     // where no column is named, there are rows and no cells to cut into them
@@ -88,7 +88,7 @@ pub fn pick_matrix<E: Element, I: Integers<E>>(
     requires columns_seen { IndexBelow columns (length (I.Integers.seen integers.now table.old)) }
     requires few { index_count rows + index_count columns < 2 ^ 64 }
     requires within { to + index_count rows * index_count columns ≤ length table.old }
-    ensures { CrossLeaves E.Element.null table.old from r s (indices_of rows (I.Integers.seen integers.now table.old)) (indices_of columns (I.Integers.seen integers.now table.old)) to result table.new }
+    ensures { CrossLeaves E.Element.NULL table.old from r s (indices_of rows (I.Integers.seen integers.now table.old)) (indices_of columns (I.Integers.seen integers.now table.old)) to result table.new }
 {
     let (below, rest) = table.split_at_mut(to);
     let source = &below[..];

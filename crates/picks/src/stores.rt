@@ -26,7 +26,7 @@ fn store_inside<E: Element, I: Integers<E>>(
     requires seen { IndexBelow index (length (I.Integers.seen integers.now table.old)) }
     requires inside { AllInside have (indices_of index (I.Integers.seen integers.now table.old)) }
     requires within { start_of values + index_count index ≤ length table.old }
-    ensures { table.new ≡ put table.old to (stored (cells table.old to have) (indices_of index (I.Integers.seen integers.now table.old)) (along E.Element.null table.old values (index_count index))) }
+    ensures { table.new ≡ put table.old to (stored (cells table.old to have) (indices_of index (I.Integers.seen integers.now table.old)) (along E.Element.NULL table.old values (index_count index))) }
 {
     // the indices, the values and the cells to write may all lie in the one table: no slice has them apart
     for k in 0..index.count() {
@@ -48,7 +48,7 @@ pub fn store<E: Element, I: Integers<E>>(
     requires indices { IndexAbove index (to + have) }
     requires seen { IndexBelow index (length (I.Integers.seen integers.now table.old)) }
     requires within { start_of values + index_count index ≤ length table.old }
-    ensures { StoreLeaves table.old to have (indices_of index (I.Integers.seen integers.now table.old)) (along E.Element.null table.old values (index_count index)) result table.new }
+    ensures { StoreLeaves table.old to have (indices_of index (I.Integers.seen integers.now table.old)) (along E.Element.NULL table.old values (index_count index)) result table.new }
 {
     Listed::new(index, integers, table).check(have, 0)?;
     store_inside(table, to, have, integers, index, values);

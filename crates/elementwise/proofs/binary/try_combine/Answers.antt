@@ -7,4 +7,4 @@ pub returns : goal.returns
 returns g c =
     let a = c.args in
     made_as c.try_make.result c.try_make.new.target
-    (along_two g.S.Element.null a.source.now (g.F.Operator.gives a.op) a.a a.b (length a.target.now) c.requires.left c.requires.right) c.try_make.ensures
+    (along_two g.S.Element.NULL a.source.now (g.F.Operator.gives a.op) a.a a.b (length a.target.now) c.requires.left c.requires.right) c.try_make.ensures

@@ -7,4 +7,4 @@ use Rattle.picks.proofs.stores.store_inside.Given as goal
 
 abbrev pub invariant-loop-k : goal.invariant-loop-k
 invariant-loop-k g l =
-    l.table ≡ put l.initial.table l.to (stored (cells l.initial.table l.to l.have) (take l.k (indices_of l.index (g.I.Integers.seen l.integers l.initial.table))) (take l.k (along g.E.Element.null l.initial.table l.values (index_count l.index))))
+    l.table ≡ put l.initial.table l.to (stored (cells l.initial.table l.to l.have) (take l.k (indices_of l.index (g.I.Integers.seen l.integers l.initial.table))) (take l.k (along g.E.Element.NULL l.initial.table l.values (index_count l.index))))
