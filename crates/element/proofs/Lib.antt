@@ -1,5 +1,4 @@
 pub mod Writes
 pub mod Stepping
 pub mod Lines
-pub mod Digits
 pub mod Comparing

@@ -1,8 +1,10 @@
 -- A loop that writes the list R, cell by cell, into a table T from `to` on.
-use Rattle.std.proofs.Common.{◌≡◌, ℕ, ◌+◌, ◌-◌, ◌<◌, ◌≤◌, List, [], ◌∷◌, ◌++◌, length, get_or, take, drop, set, replicate, sym, refl, ap, ◌∙◌, ⊎_elim, arith}
+use Rattle.std.proofs.Common.{◌≡◌, ℕ, ◌+◌, ◌-◌, ◌<◌, ◌≤◌, List, [], ◌∷◌, ◌++◌, length, get_or, take, drop, set, replicate, sym, refl, ap, ◌∙◌, ⊎_elim, zero-add, subst, arith}
 use lib.Seq.{paste}
-use Rattle.std.proofs.lemmas.List.Edits.{paste_none, paste_more, paste-paste, drop-paste, length-paste}
-use Rattle.std.proofs.lemmas.List.{get_or_append_left, get_or-take, length-append, length-take-le, length-take, length-drop, length-replicate, get_or-drop, get_or-replicate, get_or-append_right, get_or_past, get_or_default, take-append-le, take-take, drop-take, drop-drop, take_all}
+use borrow.Rule.Slice.PartMut.{put_mid}
+use Rattle.std.proofs.lemmas.Slice.{put_mid-paste}
+use Rattle.std.proofs.lemmas.List.Edits.{paste_none, paste_all, paste_more, paste-paste, drop-paste, length-paste}
+use Rattle.std.proofs.lemmas.List.{get_or_append_left, get_or-take, length-append, length-take-le, length-take, length-drop, length-replicate, get_or-drop, get_or-replicate, get_or-append_right, get_or_past, get_or_default, take-append-le, take-take, drop-take, drop-drop, take_all, drop_all, append-nil}
 use Rattle.std.proofs.lemmas.Bool.{cases_lt}
 use Rattle.std.proofs.lemmas.List.FromFn.{length-map-range_with_len, get_or-map-range_with_len}
 use Rattle.element.specs.Cells.{put, cells, tabulate, padded}
@@ -48,6 +50,20 @@ module _ {X : Type 0} (T : List X) (to n : ℕ) (G : List X → ℕ → X) where
       (is ∙ ap (λ (xs : List X). G xs i) (still_below T to (tabulate n (G (take to T))) S i e (omega arith)) ∙ sym (get_or-map-range_with_len (G (take to T)) 0 n i i v h (omega arith)))
 
 module _ {X : Type 0} where
+  -- the part `table[at..at + n]`, and the table after it is written anew
+  pub part_cells : (T : List X) (at n : ℕ) → take (at + n - at) (drop at T) ≡ cells T at n
+  part_cells T at n = let e : at + n - at ≡ n = omega arith in ap (λ (k : ℕ). take k (drop at T)) e
+
+  pub put_part : (T S R : List X) (at n : ℕ) → S ≡ R → length R ≡ n → put_mid at (at + n - at) T S ≡ put T at R
+  put_part T S R at n e l = put_mid-paste at (at + n - at) T S R (length R) e (omega arith) refl
+
+  -- a turn of a loop that writes a table from its start, and its end
+  pub write_first : (T R S : List X) (i : ℕ) (v : X) → S ≡ paste T 0 R i → i < length T → i < length R → v ≡ get_or R i v → set S i v ≡ paste T 0 R (i + 1)
+  write_first T R S i v e h k read = subst (λ (j : ℕ). set S j v ≡ paste T 0 R (i + 1)) (zero-add i) (write_more T 0 R S i v e (omega arith) k read)
+
+  pub written_whole : (T R S : List X) (i : ℕ) → S ≡ paste T 0 R i → length T ≤ i → length R ≡ length T → S ≡ R
+  written_whole T R S i e h l = e ∙ grind (arith, paste_all, append-nil, drop_all, take_all)
+
   pub length_cells : (T : List X) (at n : ℕ) → at + n ≤ length T → length (cells T at n) ≡ n
   length_cells T at n h = length-take-le n (drop at T) (simp length-drop (omega arith))
 
@@ -56,15 +72,6 @@ module _ {X : Type 0} where
 
   pub length_padded : (blank : X) (n : ℕ) (xs : List X) → length (padded blank n xs) ≡ n
   length_padded blank n xs = simp (length-append, length-take, length-replicate) (omega arith)
-
-  -- what stands past the end of xs is `blank`
-  pub get_or_padded : (blank : X) (n : ℕ) (xs : List X) (k : ℕ) (d : X) → k < n → get_or (padded blank n xs) k d ≡ get_or xs k blank
-  get_or_padded blank n xs k d h =
-      ⊎_elim
-      (λ (l : k < length xs). let m : k < length (take n xs) = simp length-take (omega arith) in get_or_append_left (take n xs) _ d k m ∙ get_or-take n xs k d h ∙ get_or_default xs k d blank l)
-      (λ (l : length xs ≤ k). let m : length (take n xs) ≡ length xs = simp length-take (omega arith) in
-      get_or-append_right (take n xs) _ (length xs) k d m l ∙ get_or-replicate (n - length xs) (k - length xs) blank d (omega arith) ∙ sym (get_or_past xs k blank l))
-      (cases_lt k (length xs))
 
   -- two writes, the second behind the first
   pub put_put : (T xs ys : List X) (to m : ℕ) → length xs ≡ m → to ≤ length T → put (put T to xs) (to + m) ys ≡ put T to (xs ++ ys)

@@ -1,6 +1,6 @@
 //! Booleans as elements: they print as T and F.
 ghost use Rattle.std.specs.Prelude.{false};
-ghost use Rattle.std.proofs.Common.{lit≤};
+ghost use Rattle.std.proofs.Common.{lit≤, rules};
 ghost use Rattle.types.specs.declared.kinds.Kind.TheVariants.{Boolean};
 ghost use Rattle.element.specs.Elements.{boolean_text};
 
@@ -10,35 +10,27 @@ use types::Kind;
 impl Element for bool {
     const NULL: bool = false;
 
+    ghost NULL = { false };
+
     const LONGEST: usize = 1;
 
-    ghost null = { false };
+    ghost LONGEST = { 1 };
 
-    ghost longest = { 1 };
+    const KIND: Kind = Kind::Boolean;
 
-    ghost kind_of = { Boolean };
+    ghost KIND = { Boolean };
 
     ghost text = { boolean_text };
+
+    ghost same = { Prim.search rules };
+
+    ghost infallible = { Prim.search rules };
+
+    ghost exact = { Prim.search rules };
 
     ghost narrow = { lit≤ tt };
 
     ghost brief = { λ _. lit≤ tt };
-
-    fn null_element() -> bool {
-        Self::NULL
-    }
-
-    fn longest_text() -> usize {
-        Self::LONGEST
-    }
-
-    fn kind() -> Kind {
-        Kind::Boolean
-    }
-
-    fn same(self, other: bool) -> bool {
-        self == other
-    }
 
     fn text_len(self) -> usize {
         1

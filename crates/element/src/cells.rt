@@ -1,18 +1,16 @@
-//! Vectors moved within a table: each function reads cells below `to`, and writes those from `to` on.
+//! Vectors moved within a table: each function reads cells as they were, and writes those from `to` on.
 ghost use Rattle.std.specs.Prelude.{◌≡◌, ℕ, ◌+◌, ◌≤◌, ◌++◌, reverse, length, replicate};
 ghost use Rattle.element.specs.Cells.{put, cells, padded};
 
 use crate::elements::Element;
 
-/// Writes the n cells from `from` on as they are.
+/// Writes the n cells from `from` on as they are. The two ranges may overlap.
 pub fn copy<E: Element>(table: &mut [E], from: usize, n: usize, to: usize)
-    requires below { from + n ≤ to }
+    requires source { from + n ≤ length table.old }
     requires within { to + n ≤ length table.old }
     ensures { table.new ≡ put table.old to (cells table.old from n) }
 {
-    for i in 0..n {
-        table[to + i] = table[from + i];
-    }
+    table.copy_within(from..from + n, to);
 }
 
 /// Writes one element into n cells.
@@ -20,31 +18,28 @@ pub fn spread<E: Element>(table: &mut [E], value: E, to: usize, n: usize)
     requires within { to + n ≤ length table.old }
     ensures { table.new ≡ put table.old to (replicate n value) }
 {
-    for i in 0..n {
-        table[to + i] = value;
-    }
+    table[to..to + n].fill(value);
 }
 
 /// Writes the vector of `have` cells from `from` on, cut or padded with nulls to `want` cells.
 pub fn resize<E: Element>(table: &mut [E], from: usize, have: usize, to: usize, want: usize)
-    requires below { from + have ≤ to }
+    requires source { from + have ≤ length table.old }
     requires within { to + want ≤ length table.old }
-    ensures { table.new ≡ put table.old to (padded E.Element.null want (cells table.old from have)) }
+    ensures { table.new ≡ put table.old to (padded E.Element.NULL want (cells table.old from have)) }
 {
-    let kept = if have < want { have } else { want };
+    let kept = have.min(want);
     copy(table, from, kept, to);
-    spread(table, E::null_element(), to + kept, want - kept);
+    spread(table, E::NULL, to + kept, want - kept);
 }
 
 /// Writes the vector backward.
 pub fn reverse<E: Element>(table: &mut [E], from: usize, n: usize, to: usize)
-    requires below { from + n ≤ to }
+    requires source { from + n ≤ length table.old }
     requires within { to + n ≤ length table.old }
     ensures { table.new ≡ put table.old to (reverse (cells table.old from n)) }
 {
-    for i in 0..n {
-        table[to + i] = table[from + (n - 1 - i)];
-    }
+    copy(table, from, n, to);
+    table[to..to + n].reverse();
 }
 
 /// Writes the m cells from `a` on, and behind them the n cells from `b` on.

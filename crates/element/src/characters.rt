@@ -1,5 +1,5 @@
 //! Characters as elements: signed bytes, which print as their bytes.
-ghost use Rattle.std.proofs.Common.{lit≤};
+ghost use Rattle.std.proofs.Common.{lit≤, rules};
 ghost use Rattle.std.specs.Prelude.{◌≡◌, pos};
 ghost use Rattle.types.specs.declared.kinds.Kind.TheVariants.{Character};
 ghost use Rattle.element.specs.Elements.{byte_of, character_text};
@@ -11,45 +11,33 @@ use types::Kind;
 fn byte_of(character: i8) -> u8
     ensures { result ≡ byte_of character }
 {
-    if character < 0 {
-        (256 + character as i16) as u8
-    } else {
-        character as u8
-    }
+    character.cast_unsigned()
 }
 
 impl Element for i8 {
     const NULL: i8 = 0;
 
+    ghost NULL = { pos 0 };
+
     const LONGEST: usize = 1;
 
-    ghost null = { pos 0 };
+    ghost LONGEST = { 1 };
 
-    ghost longest = { 1 };
+    const KIND: Kind = Kind::Character;
 
-    ghost kind_of = { Character };
+    ghost KIND = { Character };
 
     ghost text = { character_text };
+
+    ghost same = { Prim.search rules };
+
+    ghost infallible = { Prim.search rules };
+
+    ghost exact = { Prim.search rules };
 
     ghost narrow = { lit≤ tt };
 
     ghost brief = { λ _. lit≤ tt };
-
-    fn null_element() -> i8 {
-        Self::NULL
-    }
-
-    fn longest_text() -> usize {
-        Self::LONGEST
-    }
-
-    fn kind() -> Kind {
-        Kind::Character
-    }
-
-    fn same(self, other: i8) -> bool {
-        self == other
-    }
 
     fn text_len(self) -> usize {
         1

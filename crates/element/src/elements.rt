@@ -6,46 +6,24 @@ ghost use Rattle.element.specs.Cells.{put};
 use types::Kind as CellKind;
 
 /// An element of a value: what one cell of a table holds. A table has cells of one kind.
-pub trait Element: Copy {
+pub trait Element: Copy + Eq {
     /// What pads a value that is too short, and what a variable without a value holds.
     const NULL: Self;
+
+    ghost NULL: { Self };
 
     /// How many bytes the longest text of an element has.
     const LONGEST: usize;
 
-    // which element the null is
-    ghost null: { Self };
+    ghost LONGEST: { ℕ };
 
-    // how many bytes the longest text has
-    ghost longest: { ℕ };
+    /// The kind of the tables that hold such elements.
+    const KIND: CellKind;
 
-    // the kind of such elements
-    ghost kind_of: { Kind };
+    ghost KIND: { Kind };
 
     // the bytes that an element prints as
     ghost text: { Self → List ℕ };
-
-    // so that lengths of texts can be added up
-    ghost narrow: { longest ≤ 255 };
-
-    // no text is longer than the longest
-    ghost brief: { (x : Self) → length (text x) ≤ longest };
-
-    /// Hands out `NULL`, so that generic code knows which element it is.
-    fn null_element() -> Self
-        ensures { result ≡ null };
-
-    /// Hands out `LONGEST`, so that generic code knows how many bytes it is.
-    fn longest_text() -> usize
-        ensures { result ≡ longest };
-
-    /// The kind of the tables that hold such elements.
-    fn kind() -> CellKind
-        ensures { result ≡ kind_of };
-
-    /// Whether the two are one element.
-    fn same(self, other: Self) -> bool
-        ensures { Decides result (self ≡ other) };
 
     /// How many bytes the element's text has.
     fn text_len(self) -> usize
@@ -56,4 +34,18 @@ pub trait Element: Copy {
         requires { at + length (text self) ≤ length output.old }
         ensures written { output.new ≡ put output.old at (text self) }
         ensures end { result ≡ at + length (text self) };
+
+    // `==` answers whether the two are one element
+    ghost same: { (x y : Self) → Decides (Self.eq x y) (x ≡ y) };
+
+    // a clone does not fail, and is the element itself
+    ghost infallible: { (x : Self) → Self.is_infallible x };
+
+    ghost exact: { (x y : Self) → Self.is_clone x y → y ≡ x };
+
+    // so that lengths of texts can be added up
+    ghost narrow: { LONGEST ≤ 255 };
+
+    // no text is longer than the longest
+    ghost brief: { (x : Self) → length (text x) ≤ LONGEST };
 }

@@ -10,12 +10,7 @@ pub fn equal<E: Element>(table: &[E], a: usize, b: usize, n: usize) -> bool
     requires right { b + n ≤ length table.now }
     ensures { Decides result (cells table.now a n ≡ cells table.now b n) }
 {
-    for i in 0..n {
-        if !table[a + i].same(table[b + i]) {
-            return false;
-        }
-    }
-    true
+    table[a..a + n] == table[b..b + n]
 }
 
 /// Whether each of the n cells from `at` on holds the element.
@@ -23,10 +18,5 @@ pub fn equal_throughout<E: Element>(table: &[E], at: usize, n: usize, value: E) 
     requires within { at + n ≤ length table.now }
     ensures { Decides result (cells table.now at n ≡ replicate n value) }
 {
-    for i in 0..n {
-        if !table[at + i].same(value) {
-            return false;
-        }
-    }
-    true
+    table[at..at + n].iter().all(|x| *x == value)
 }

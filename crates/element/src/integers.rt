@@ -1,58 +1,49 @@
 //! Integers as elements: 32 bits, which print as decimals.
-ghost use Rattle.std.proofs.Common.{lit≤};
+ghost use Rattle.std.proofs.Common.{lit≤, rules};
 ghost use Rattle.std.specs.Prelude.{pos};
 ghost use Rattle.types.specs.declared.kinds.Kind.TheVariants.{Integer};
 ghost use Rattle.element.specs.Elements.{integer_text};
 ghost use Rattle.element.specs.Brief.{integer_brief};
 
-use crate::decimals::{digit_count, write_decimal};
 use crate::elements::Element;
+use itoa::Buffer;
 use types::Kind;
 
 impl Element for i32 {
     const NULL: i32 = 0;
 
+    ghost NULL = { pos 0 };
+
     const LONGEST: usize = 11;
 
-    ghost null = { pos 0 };
+    ghost LONGEST = { 11 };
 
-    ghost longest = { 11 };
+    const KIND: Kind = Kind::Integer;
 
-    ghost kind_of = { Integer };
+    ghost KIND = { Integer };
 
     ghost text = { integer_text };
+
+    ghost same = { Prim.search rules };
+
+    ghost infallible = { Prim.search rules };
+
+    ghost exact = { Prim.search rules };
 
     ghost narrow = { lit≤ tt };
 
     ghost brief = { integer_brief };
 
-    fn null_element() -> i32 {
-        Self::NULL
-    }
-
-    fn longest_text() -> usize {
-        Self::LONGEST
-    }
-
-    fn kind() -> Kind {
-        Kind::Integer
-    }
-
-    fn same(self, other: i32) -> bool {
-        self == other
-    }
-
     fn text_len(self) -> usize {
-        let digits = digit_count(self.unsigned_abs());
-        if self < 0 { digits + 1 } else { digits }
+        let mut digits = Buffer::new();
+        digits.format(self).len()
     }
 
     fn write_text(self, output: &mut [u8], at: usize) -> usize {
-        if self < 0 {
-            output[at] = b'-';
-            write_decimal(self.unsigned_abs(), output, at + 1)
-        } else {
-            write_decimal(self.unsigned_abs(), output, at)
-        }
+        let mut digits = Buffer::new();
+        let text = digits.format(self).as_bytes();
+        let end = at + text.len();
+        output[at..end].copy_from_slice(text);
+        end
     }
 }

@@ -4,7 +4,6 @@
 mod booleans;
 pub mod cells;
 mod characters;
-mod decimals;
 pub mod elements;
 pub mod equality;
 mod integers;

@@ -18,12 +18,12 @@ fn resize_row<E: Element>(
 )
     requires below { from + r * s ≤ to }
     requires within { to + want ≤ length table.old }
-    ensures { table.new ≡ put table.old to (padded E.Element.null want (slice_index_or (rows_of r s (cells table.old from (r * s))) k [])) }
+    ensures { table.new ≡ put table.old to (padded E.Element.NULL want (slice_index_or (rows_of r s (cells table.old from (r * s))) k [])) }
 {
     if k < r {
         resize(table, from + k * s, s, to, want);
     } else {
-        spread(table, E::null_element(), to, want);
+        spread(table, E::NULL, to, want);
     }
 }
 
@@ -39,8 +39,9 @@ pub fn resize_matrix<E: Element>(
 )
     requires below { from + r * s ≤ to }
     requires within { to + rows * columns ≤ length table.old }
-    ensures { table.new ≡ put table.old to (resized E.Element.null rows columns (rows_of r s (cells table.old from (r * s)))) }
+    ensures { table.new ≡ put table.old to (resized E.Element.NULL rows columns (rows_of r s (cells table.old from (r * s)))) }
 {
+    // by the row's number: a row may be 0 cells wide, and `chunks_exact_mut` refuses that
     for k in 0..rows {
         resize_row(table, from, r, s, k, to + k * columns, columns);
     }
@@ -59,7 +60,7 @@ pub fn stack<E: Element>(
     requires upper { a + r * s ≤ to }
     requires lower { b + n ≤ to }
     requires within { to + (r + 1) * max s n ≤ length table.old }
-    ensures { table.new ≡ put table.old to (stacked E.Element.null (max s n) (rows_of r s (cells table.old a (r * s))) (cells table.old b n)) }
+    ensures { table.new ≡ put table.old to (stacked E.Element.NULL (max s n) (rows_of r s (cells table.old a (r * s))) (cells table.old b n)) }
 {
     let width = s.max(n);
     resize_matrix(table, a, r, s, to, r, width);

@@ -1,5 +1,5 @@
 //! Every b-th element of a vector.
-ghost use Rattle.std.specs.Prelude.{◌≡◌, ℕ, ◌+◌, ◌^◌, ◌<◌, ◌≤◌, length};
+ghost use Rattle.std.specs.Prelude.{◌≡◌, ℕ, ◌+◌, ◌<◌, ◌≤◌, length};
 ghost use Rattle.element.specs.Cells.{put, cells};
 ghost use Rattle.element.specs.Steps.{step_count, stepped};
 
@@ -7,23 +7,22 @@ use crate::elements::Element;
 
 /// How many elements `step_by` writes of n.
 pub fn step_count(n: usize, step: usize) -> usize
-    requires some { 0 < step }
-    requires fits { n + step < 2 ^ 64 }
+    requires { 0 < step }
     ensures { result ≡ step_count n step }
 {
-    (n + (step - 1)) / step
+    n.div_ceil(step)
 }
 
 /// Writes the first of the n cells from `from` on, the one `step` behind it, and so on.
 pub fn step_by<E: Element>(table: &mut [E], from: usize, n: usize, step: usize, to: usize)
     requires some { 0 < step }
-    requires fits { n + step < 2 ^ 64 }
     requires below { from + n ≤ to }
     requires within { to + step_count n step ≤ length table.old }
-    ensures { table.new ≡ put table.old to (stepped E.Element.null step (cells table.old from n)) }
+    ensures { table.new ≡ put table.old to (stepped E.Element.NULL step (cells table.old from n)) }
 {
-    let count = step_count(n, step);
-    for k in 0..count {
-        table[to + k] = table[from + k * step];
+    let (below, above) = table.split_at_mut(to);
+    let target = &mut above[..step_count(n, step)];
+    for (k, cell) in target.iter_mut().enumerate() {
+        *cell = below[from + k * step];
     }
 }

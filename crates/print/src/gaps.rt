@@ -3,14 +3,6 @@ ghost use Rattle.std.specs.Prelude.{◌≡◌, ◌+◌, ◌≤◌, length};
 ghost use Rattle.element.specs.Cells.{put};
 ghost use Rattle.print.specs.Texts.{gap};
 
-/// How many bytes stand before the k-th text.
-pub fn gap_len(k: usize) -> usize
-    ensures value { result ≡ length (gap k) }
-    ensures small { result ≤ 1 }
-{
-    if k == 0 { 0 } else { 1 }
-}
-
 /// Writes what stands before the k-th text, and says where it ends.
 pub fn write_gap(output: &mut [u8], at: usize, k: usize) -> usize
     requires { at + length (gap k) ≤ length output.old }

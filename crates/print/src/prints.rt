@@ -13,7 +13,7 @@ pub fn print_scalar<E: Element>(value: E, output: &mut [u8], from: usize) -> Opt
     ensures { Printed (E.Element.text value) output.old from result output.new }
 {
     let room = output.len() - from;
-    if room < E::longest_text() && room < value.text_len() {
+    if room < E::LONGEST && room < value.text_len() {
         return None;
     }
     Some(value.write_text(output, from))
@@ -36,7 +36,7 @@ pub fn print_vector<E: Element>(
     if !vector_fits(table, at, n, room) {
         return None;
     }
-    Some(write_vector(table, at, n, output, from))
+    Some(write_vector(&table[at..at + n], output, from))
 }
 
 /// Prints the r × s matrix from `at` on into the output from `from` on, and says where its text ends.

@@ -6,24 +6,17 @@ ghost use Rattle.print.specs.Texts.{vector_text, matrix_text};
 use crate::gaps::write_gap;
 use element::Element;
 
-/// Writes the text of the vector of n cells from `at` on into the output from `from` on, and says where it ends.
-pub fn write_vector<E: Element>(
-    table: &[E],
-    at: usize,
-    n: usize,
-    output: &mut [u8],
-    from: usize,
-) -> usize
-    requires within { at + n ≤ length table.now }
-    requires fits { from + length (vector_text E.Element.text (cells table.now at n)) ≤ length output.old }
-    ensures written { output.new ≡ put output.old from (vector_text E.Element.text (cells table.now at n)) }
-    ensures end { result ≡ from + length (vector_text E.Element.text (cells table.now at n)) }
+/// Writes the vector's text into the output from `from` on, and says where it ends.
+pub fn write_vector<E: Element>(vector: &[E], output: &mut [u8], from: usize) -> usize
+    requires { from + length (vector_text E.Element.text vector.now) ≤ length output.old }
+    ensures written { output.new ≡ put output.old from (vector_text E.Element.text vector.now) }
+    ensures end { result ≡ from + length (vector_text E.Element.text vector.now) }
 {
     output[from] = b'[';
     let mut end = from + 1;
-    for k in 0..n {
+    for (k, x) in vector.iter().enumerate() {
         let start = write_gap(output, end, k);
-        end = table[at + k].write_text(output, start);
+        end = x.write_text(output, start);
     }
     output[end] = b']';
     end + 1
@@ -45,9 +38,11 @@ pub fn write_matrix<E: Element>(
 {
     output[from] = b'[';
     let mut end = from + 1;
+    // by the row's number: a row may be 0 cells wide, and `chunks_exact` refuses that
     for k in 0..r {
         let start = write_gap(output, end, k);
-        end = write_vector(table, at + k * s, s, output, start);
+        let row = at + k * s;
+        end = write_vector(&table[row..row + s], output, start);
     }
     output[end] = b']';
     end + 1

@@ -1,21 +1,12 @@
-use Rattle.std.proofs.Common.{sym, ap, ◌∙◌, le_refl, rules}
+use Rattle.std.proofs.Common.{sym, ap, ◌∙◌, rules}
 use Rattle.element.specs.Cells.{put, padded}
-use Rattle.element.proofs.Lines.{row_below, row_of, row_past, padded_none}
+use Rattle.element.proofs.Lines.{row_of, row_past, padded_none}
 use Rattle.element.proofs.matrices.resize_row.Goals as goal
-
-pub overflow_mul-k : goal.overflow_mul-k
-overflow_mul-k g c = let h = row_below c.args.k c.args.r c.args.s c.args.s c.if-k-r.true (le_refl _) in search rules
-
-pub overflow_add-from : goal.overflow_add-from
-overflow_add-from g c = let h = row_below c.args.k c.args.r c.args.s c.args.s c.if-k-r.true (le_refl _) in search rules
-
-pub resize-requires : goal.resize-requires
-resize-requires g c = let h = row_below c.args.k c.args.r c.args.s c.args.s c.if-k-r.true (le_refl _) in search rules
 
 pub returns-then-k-r : goal.returns-then-k-r
 returns-then-k-r g c =
     let a = c.args in
-    c.resize.ensures ∙ ap (λ xs. put a.table.now a.to (padded g.E.Element.null a.want xs)) (sym (row_of a.table.now a.from a.r a.s a.k c.if-k-r.true))
+    c.resize.ensures ∙ ap (λ xs. put a.table.now a.to (padded g.E.Element.NULL a.want xs)) (sym (row_of a.table.now a.from a.r a.s a.k c.if-k-r.true))
 
 pub returns-else-k-r : goal.returns-else-k-r
 returns-else-k-r g c =

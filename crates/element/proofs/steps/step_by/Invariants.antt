@@ -5,4 +5,4 @@ use Rattle.element.specs.Steps.{stepped}
 use Rattle.element.proofs.steps.step_by.Given as goal
 
 abbrev pub invariant-loop-k : goal.invariant-loop-k
-invariant-loop-k g l = l.table ≡ paste l.initial.table l.to (stepped g.E.Element.null l.step (cells l.initial.table l.from l.n)) l.k
+invariant-loop-k g l = l.target ≡ paste l.initial.target 0 (stepped g.E.Element.NULL l.step (cells l.below l.from l.n)) l.k

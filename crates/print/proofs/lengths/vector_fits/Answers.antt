@@ -1,12 +1,12 @@
-use Rattle.std.proofs.Common.{◌+◌, ◌*◌, ◌≤◌, length, refl, le_trans}
+use Rattle.std.proofs.Common.{arith, refl, le_trans}
 use Rattle.element.specs.Cells.{cells}
-use Rattle.print.specs.Texts.{vector_text}
-use Rattle.print.proofs.Spaces.{vector_le}
+use Rattle.element.proofs.Writes.{length_cells}
+use Rattle.print.proofs.Spaces.{length_vector, texts_le}
 use Rattle.print.proofs.lengths.vector_fits.Goals as goal
 
-pub returns-then-n-longest_text : goal.returns-then-n-longest_text
-returns-then-n-longest_text g c =
+pub returns-then-n-LONGEST : goal.returns-then-n-LONGEST
+returns-then-n-LONGEST g c =
     let a = c.args in
-    let text = g.E.Element.text in
-    let le : length (vector_text text (cells a.table.now a.at a.n)) ≤ 2 + a.n * (c.longest_text.result + 1) = rw c.longest_text.ensures (vector_le text a.table.now a.at a.n g.E.Element.longest g.E.Element.brief c.requires.within) in
-    (λ _. le_trans le c.if-n-longest_text.true, λ _. refl)
+    let xs = cells a.table.now a.at a.n in
+    let le = texts_le g.E.Element.text g.E.Element.LONGEST g.met.E.Element.brief xs in
+    grind (arith, length_vector g.E.Element.text xs, length_cells a.table.now a.at a.n c.requires.within)

@@ -1,6 +1,0 @@
-use Rattle.std.proofs.Common.{◌≡◌, take, replicate}
-use Rattle.element.specs.Cells.{cells}
-use Rattle.element.proofs.equality.equal_throughout.Given as goal
-
-abbrev pub invariant-loop-i : goal.invariant-loop-i
-invariant-loop-i g l = take l.i (cells l.table l.at l.n) ≡ take l.i (replicate l.n l.value)
