@@ -11,7 +11,7 @@ use Rattle.elementwise.specs.Results.{before, collected, Made}
 use Rattle.std.proofs.lemmas.List.Edits.{paste_none}
 use Rattle.std.proofs.lemmas.List.FromFn.{get_or-map-range_with_len, length-map-range_with_len}
 use Rattle.arithmetic.specs.declared.faults.ElementFault.{ElementFault}
-use Rattle.element.proofs.Writes.{write_more}
+use Rattle.element.proofs.Writes.{write_first, written_whole}
 
 -- the values of rs, with d for a fault
 abbrev pub values : {X F : Type 0} → X → List (Result X F) → List X
@@ -40,25 +40,15 @@ pub record Sofar {X : Type 0} (d : X) (T : List X) (rs : List (Result X Arithmet
   pub written : S ≡ paste T 0 (values d rs) i
   pub passed : Passed d rs i
 
--- cells that are written one after another, from the first on
-module _ {X : Type 0} (T R : List X) (e : length R ≡ length T) where
-  pub next_cell : (S : List X) (i : ℕ) (v : X) → S ≡ paste T 0 R i → i < length T → v ≡ get_or R i v → set S i v ≡ paste T 0 R (i + 1)
-  next_cell S i v w h is = let z : 0 + i ≡ i = omega arith in ap (λ (k : ℕ). set S k v) (sym z) ∙ write_more T 0 R S i v w (omega arith) (omega arith) is
-
-  pub all_cells : (S : List X) (i : ℕ) → S ≡ paste T 0 R i → length T ≤ i → S ≡ R
-  all_cells S i w h =
-      let z : 0 + i ≡ i = omega arith in
-      w ∙ ap (λ (k : ℕ). take i R ++ drop k T) z ∙ ap (λ (xs : List X). xs ++ drop i T) (take_all i R (omega arith)) ∙ ap (λ (xs : List X). R ++ xs) (drop_all i T h) ∙ append-nil R
-
 module _ {X : Type 0} (T : List X) (G : ℕ → X) where
   pub made_none : T ≡ paste T 0 (tabulate (length T) G) 0
   made_none = paste_none T 0 (tabulate (length T) G)
 
   pub made_more : (S : List X) (i : ℕ) (v : X) → S ≡ paste T 0 (tabulate (length T) G) i → i < length T → v ≡ G i → set S i v ≡ paste T 0 (tabulate (length T) G) (i + 1)
-  made_more S i v w h is = next_cell T (tabulate (length T) G) (length-map-range_with_len G 0 (length T)) S i v w h (is ∙ sym (get_or-map-range_with_len G 0 (length T) i i v h (omega arith)))
+  made_more S i v w h is = write_first T (tabulate (length T) G) S i v w h (omega (arith, length-map-range_with_len G 0 (length T))) (is ∙ sym (get_or-map-range_with_len G 0 (length T) i i v h (omega arith)))
 
   pub made_all : (S : List X) (i : ℕ) → S ≡ paste T 0 (tabulate (length T) G) i → length T ≤ i → S ≡ tabulate (length T) G
-  made_all S i w h = all_cells T (tabulate (length T) G) (length-map-range_with_len G 0 (length T)) S i w h
+  made_all S i w h = written_whole T (tabulate (length T) G) S i w h (length-map-range_with_len G 0 (length T))
 
 module _ {X : Type 0} (d : X) (T : List X) (G : ℕ → Result X ArithmeticFault) where
   pub sofar_none : Sofar d T (tabulate (length T) G) 0 T
@@ -78,7 +68,7 @@ module _ {X : Type 0} (d : X) (T : List X) (G : ℕ → Result X ArithmeticFault
       let rs = tabulate (length T) G in
       let e : get_or rs i (Ok d) ≡ Ok v = here i h ∙ sym is in
       record {
-        written = next_cell T (values d rs) long_values S i v s.written h (sym (get_or-map (λ r. result_unwrap_or r d) rs i (Ok d) v (omega (arith, long)) ∙ ap (λ r. result_unwrap_or r d) e));
+        written = write_first T (values d rs) S i v s.written h (omega (arith, long_values)) (sym (get_or-map (λ r. result_unwrap_or r d) rs i (Ok d) v (omega (arith, long)) ∙ ap (λ r. result_unwrap_or r d) e));
         passed = below_more (λ j. is_ok (get_or rs j (Ok d)) ≡ true) i s.passed (ap is_ok e);
       }
 
@@ -87,7 +77,7 @@ module _ {X : Type 0} (d : X) (T : List X) (G : ℕ → Result X ArithmeticFault
       let rs = tabulate (length T) G in
       let P : Result (List X) ElementFault → Type 0 = λ o. Made o r S in
       let Q : ℕ → Type 0 = λ k. Passed d rs k in
-      subst P (sym (collected_all d 1 rs (subst Q (e ∙ sym long) s.passed))) (told, all_cells T (values d rs) long_values S i s.written (omega arith))
+      subst P (sym (collected_all d 1 rs (subst Q (e ∙ sym long) s.passed))) (told, written_whole T (values d rs) S i s.written (omega arith) long_values)
 
   pub made_until : (S S' : List X) (i : ℕ) (f : ArithmeticFault) (r : Result (Unit {0}) ElementFault) → Sofar d T (tabulate (length T) G) i S → i < length T → Err f ≡ G i → r ≡ Err (at_element (i + 1) f) → Made (collected 1 (tabulate (length T) G)) r S'
   made_until S S' i f r s h is told =

@@ -1,5 +1,5 @@
 -- Loops that store elements by indices.
-use Rattle.std.proofs.Common.{◌≡◌, ℕ, zero, suc, ◌+◌, ◌-◌, ◌*◌, ◌<◌, ◌≤◌, true, false, cond, List, [], ◌∷◌, ◌++◌, length, get_or, take, drop, set, replicate, ℤ, pos, Some, None, Option, sym, refl, ap, ◌∙◌, le_refl, arith}
+use Rattle.std.proofs.Common.{◌≡◌, ℕ, zero, suc, ◌+◌, ◌-◌, ◌*◌, ◌<◌, ◌≤◌, true, false, cond, List, [], ◌∷◌, ◌++◌, length, get_or, take, drop, set, replicate, ℤ, pos, Some, None, Option, Ok, sym, refl, ap, ◌∙◌, le_refl, arith}
 use lib.Seq.{paste}
 use Rattle.std.proofs.lemmas.List.{length-set, length-replicate, get_or-replicate, get_or_default, get_or-drop, take_all, length-append, length-take-le, set-append_left, set-append_right, take-append-drop, drop-drop, append_assoc}
 use Rattle.std.proofs.lemmas.Bool.{cond-true}
@@ -7,10 +7,17 @@ use Rattle.element.specs.declared.operands.Operand.{Operand}
 use Rattle.element.specs.declared.operands.Operand.TheVariants.{Run, Scalar}
 use Rattle.element.specs.Operands.{start_of, place_of as cell_of, along}
 use Rattle.element.specs.Cells.{put, cells}
-use Rattle.picks.specs.Indices.{place_of, inside, first_outside, or_else, first_outside2}
+use Rattle.picks.specs.Indices.{place_of, place_among, inside, first_outside, or_else, first_outside2}
 use Rattle.picks.specs.Stores.{stored}
+use Rattle.std.specs.Option.{ok_or}
+use Rattle.picks.proofs.Indexing.{placed, inside_bound}
 use Rattle.element.proofs.Lines.{row_below}
 use Rattle.element.proofs.Writes.{length_cells, get_or_cells, drop_beyond}
+
+-- no value lies before the first
+start_first : (v : Operand) (k : ℕ) → start_of v ≤ cell_of v k
+start_first (Run at) k = omega arith
+start_first (Scalar at) k = le_refl at
 
 module _ {X : Type 0} where
   -- a cell written within a run that was written
@@ -69,11 +76,6 @@ module _ {X : Type 0} where
   get_or_along null T (Run at) n k d l h = get_or_cells T at n k d l
   get_or_along null T (Scalar at) n k d l h = get_or-replicate n k _ d l ∙ get_or_default T at null d (omega arith)
 
-  -- no value lies before the first
-  pub start_first : (v : Operand) (k : ℕ) → start_of v ≤ cell_of v k
-  start_first (Run at) k = omega arith
-  start_first (Scalar at) k = le_refl at
-
   -- a turn that stores the k-th value
   pub store_more : (null : X) (T S : List X) (to have n : ℕ) (js : List ℤ) (v : Operand) (k place : ℕ) (x : X)
       → length js ≡ n → k < n → to + have ≤ start_of v → start_of v + n ≤ length T → place ≡ place_of (get_or js k (pos 0)) → place < have
@@ -108,6 +110,12 @@ module _ {X : Type 0} where
 -- a row and a column that a matrix has
 pub cell_below : (row column r s : ℕ) → row < r → column < s → row * s + column < r * s
 cell_below row column r s h l = omega (arith, row_below row r s (column + 1) h (omega arith))
+
+pub cell_placed : {E : Type 0} (r s row column : ℕ) (i j : ℤ) (o p : Option ℕ) (e f : E) → o ≡ place_among r i → Ok row ≡ ok_or o e → p ≡ place_among s j → Ok column ≡ ok_or p f → row * s + column < r * s
+cell_placed r s row column i j o p e f is h are k =
+    let here = placed r i o row e is h in
+    let there = placed s j p column f are k in
+    cell_below row column r s (omega (arith, here.1, inside_bound r i here.0)) (omega (arith, there.1, inside_bound s j there.0))
 
 pub both_inside : (r s : ℕ) (i j : ℤ) → inside r i ≡ true → inside s j ≡ true → None ≡ first_outside2 r s (i ∷ []) (j ∷ [])
 both_inside r s i j h l = sym (cond-true (inside s j) None (Some 2) l) ∙ ap (λ (x : Option ℕ). or_else x (first_outside 2 s (j ∷ []))) (sym (cond-true (inside r i) None (Some 1) h))

@@ -62,11 +62,11 @@ fn cross_inside<E: Element, I: Integers<E>>(
     ensures { target.new ≡ crossed E.Element.NULL s cells.now rows.now columns.now }
 {
     let width = columns.count();
-    // where no column is named, there are rows and no cells to cut into them
+    // by the rows' numbers: where no column is named, there is nothing to cut into chunks
     for k in 0..rows.count() {
-        let start = rows.place(k, r) * s;
+        let row = rows.place(k, r);
         let line = &mut target[k * width..(k + 1) * width];
-        pick_inside(&cells[start..start + s], columns, line);
+        pick_inside(&cells[row * s..row * s + s], columns, line);
     }
 }
 
@@ -94,10 +94,12 @@ pub fn pick_matrix<E: Element, I: Integers<E>>(
     let source = &below[..];
     let rows = Listed::new(rows, integers, source);
     let columns = Listed::new(columns, integers, source);
+    let height = rows.count();
+    let width = columns.count();
     rows.check(r, 0)?;
-    columns.check(s, rows.count())?;
+    columns.check(s, height)?;
     let cells = &source[from..from + r * s];
-    let target = &mut rest[..rows.count() * columns.count()];
+    let target = &mut rest[..height * width];
     cross_inside(cells, r, s, &rows, &columns, target);
     Ok(())
 }

@@ -5,7 +5,8 @@ use Rattle.elementwise.specs.Products.{dot, strided}
 use Rattle.elementwise.proofs.Collects.{made_as}
 use Rattle.elementwise.proofs.Grids.{row_below, some_columns}
 use Rattle.elementwise.proofs.Matrices.{products_by_place}
-use Rattle.elementwise.proofs.Parts.{target_long, wrote_part}
+use Rattle.element.proofs.Parts.{target_long}
+use Rattle.elementwise.proofs.Parts.{wrote_part}
 use Rattle.elementwise.proofs.products.matrix_product.Goals as goal
 
 pub try_make-requires : goal.try_make-requires
