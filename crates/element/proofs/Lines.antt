@@ -1,8 +1,8 @@
 -- Rows of one width, written one after another.
-use Rattle.std.proofs.Common.{◌≡◌, ℕ, zero, suc, ◌+◌, ◌-◌, ◌*◌, ◌<◌, ◌≤◌, List, [], ◌∷◌, ◌++◌, map, length, get_or, take, drop, replicate, sym, refl, ap, ◌∙◌, append_assoc, le_refl, suc-mul, zero-mul, arith}
+use Rattle.std.proofs.Common.{◌≡◌, ℕ, zero, suc, ◌+◌, ◌-◌, ◌*◌, ◌<◌, ◌≤◌, List, [], ◌∷◌, ◌++◌, map, length, get_or, take, drop, replicate, sym, refl, ap, ◌∙◌, append_assoc, le_refl, le_trans, suc-mul, zero-mul, arith}
 use Rattle.std.proofs.lemmas.Nat.{mul-le}
 use Rattle.std.proofs.lemmas.List.FromFn.{length-map-range_with_len, get_or-map-range_with_len}
-use Rattle.std.proofs.lemmas.List.{take_more, take_all, length-append, append-nil, drop-take, drop-drop, take-take, same_lists, length-map, get_or-map, map-append, get_or_past}
+use Rattle.std.proofs.lemmas.List.{take_more, take_all, length-append, append-nil, drop-take, drop-drop, take-take, same_lists, length-map, get_or-map, map-append, get_or_past, get_or-drop, length-drop, take-append-drop, replicate-append-replicate}
 use Rattle.element.specs.Cells.{put, cells, tabulate, padded, joined, rows_of}
 use Rattle.element.specs.Matrices.{resized_rows, resized, stacked}
 use Rattle.element.proofs.Writes.{put_put, cells_below, length_padded}
@@ -62,16 +62,16 @@ module _ {X : Type 0} where
       let h' : k < n = omega arith in
       get_or-map-range_with_len (λ k. f (get_or xs k d)) 0 n k k z h' (omega arith) ∙ sym (get_or-map f xs k d z (omega arith)))
 
-  pub padded_none : (null : X) (n : ℕ) (xs : List X) → xs ≡ [] → replicate n null ≡ padded null n xs
-  padded_none null n xs e =
-      let z : n - 0 ≡ n = omega arith in
-      ap (λ (k : ℕ). replicate k null) (sym z) ∙ ap (λ (ys : List X). ys ++ replicate (n - 0) null) (sym (take_all n [] (omega arith))) ∙ ap (padded null n) (sym e)
-
-  pub row_past : (T : List X) (from r s k : ℕ) → r ≤ k → get_or (rows_of r s (cells T from (r * s))) k [] ≡ []
+  row_past : (T : List X) (from r s k : ℕ) → r ≤ k → get_or (rows_of r s (cells T from (r * s))) k [] ≡ []
   row_past T from r s k h = get_or_past (rows_of r s (cells T from (r * s))) k [] (omega (arith, length-map-range_with_len (λ k. cells (cells T from (r * s)) (k * s) s) 0 r))
 
 -- a matrix that is cut or padded, row by row
 module _ {X : Type 0} (null : X) where
+  padded_nothing : (n : ℕ) → padded null n [] ≡ replicate n null
+  padded_nothing n =
+      let z : n - 0 ≡ n = omega arith in
+      ap (λ (xs : List X). xs ++ replicate (n - 0) null) (take_all n [] (omega arith)) ∙ ap (λ (k : ℕ). replicate k null) z
+
   pub length_resized : (r s : ℕ) (rows : List (List X)) → length (resized_rows null r s rows) ≡ r
   length_resized r s rows = length-map-range_with_len (λ k. padded null s (get_or rows k [])) 0 r
 
@@ -86,19 +86,51 @@ module _ {X : Type 0} (null : X) where
   pub length_resized_all : (r s : ℕ) (rows : List (List X)) → length (joined (resized_rows null r s rows)) ≡ r * s
   length_resized_all r s rows = length_joined_all s (resized_rows null r s rows) (wide_resized r s rows) ∙ ap (λ (n : ℕ). n * s) (length_resized r s rows)
 
-  pub resized_more : (T S U : List X) (from r s to rows columns k : ℕ) → from + r * s ≤ to → to + rows * columns ≤ length T → k < rows
+  pub resized_more : (T S U : List X) (from r s to rows columns k : ℕ) → from + r * s ≤ to → to + rows * columns ≤ length T → k < r → k < rows
       → S ≡ put T to (joined (take k (resized_rows null rows columns (rows_of r s (cells T from (r * s))))))
-      → U ≡ put S (to + k * columns) (padded null columns (get_or (rows_of r s (cells S from (r * s))) k []))
+      → U ≡ put S (to + k * columns) (padded null columns (cells S (from + k * s) s))
       → U ≡ put T to (joined (take (k + 1) (resized_rows null rows columns (rows_of r s (cells T from (r * s))))))
-  resized_more T S U from r s to rows columns k below within h s' u =
+  resized_more T S U from r s to rows columns k below within row h s' u =
       let ls = resized_rows null rows columns (rows_of r s (cells T from (r * s))) in
       let same : cells S from (r * s) ≡ cells T from (r * s) = ap (λ (xs : List X). cells xs from (r * s)) s' ∙ cells_below T (joined (take k ls)) to from (r * s) below (omega arith) in
       let l : length ls ≡ rows = length_resized rows columns (rows_of r s (cells T from (r * s))) in
       line_more T S U to columns k ls (wide_resized rows columns (rows_of r s (cells T from (r * s)))) (omega arith) (omega arith) s'
-      (u ∙ ap (λ (xs : List X). put S (to + k * columns) (padded null columns (get_or (rows_of r s xs) k []))) same ∙ ap (put S (to + k * columns)) (sym (get_or_resized rows columns (rows_of r s (cells T from (r * s))) k h)))
+      (u ∙ ap (λ (xs : List X). put S (to + k * columns) (padded null columns xs)) (sym (row_of S from r s k row))
+      ∙ ap (λ (xs : List X). put S (to + k * columns) (padded null columns (get_or (rows_of r s xs) k []))) same ∙ ap (put S (to + k * columns)) (sym (get_or_resized rows columns (rows_of r s (cells T from (r * s))) k h)))
 
-  pub resized_all : (T S : List X) (to r s k : ℕ) (rows : List (List X)) → r ≤ k → S ≡ put T to (joined (take k (resized_rows null r s rows))) → S ≡ put T to (resized null r s rows)
-  resized_all T S to r s k rows h e = e ∙ ap (λ (ls : List (List X)). put T to (joined ls)) (take_all k (resized_rows null r s rows) (omega (arith, length_resized r s rows)))
+  -- lists of nulls
+  blank_rows : (w : ℕ) (ls : List (List X)) → ((i : ℕ) → i < length ls → get_or ls i [] ≡ replicate w null) → joined ls ≡ replicate (length ls * w) null
+  blank_rows w [] h = ap (λ (n : ℕ). replicate n null) (sym (zero-mul w))
+  blank_rows w (l ∷ ls) h =
+      let e : w + length ls * w ≡ length (l ∷ ls) * w = omega (arith, suc-mul (length ls) w) in
+      ap (λ (xs : List X). xs ++ joined ls) (h 0 (omega arith)) ∙ ap (λ (xs : List X). replicate w null ++ xs) (blank_rows w ls (λ i k. h (suc i) (omega arith)))
+      ∙ replicate-append-replicate w (length ls * w) null ∙ ap (λ (n : ℕ). replicate n null) e
+
+  -- what stands past the r rows, or past the rows that are wanted
+  blank_rest : (T : List X) (from r s rows columns k : ℕ) → k ≤ rows → (k < rows → r ≤ k) → joined (drop k (resized_rows null rows columns (rows_of r s (cells T from (r * s))))) ≡ replicate ((rows - k) * columns) null
+  blank_rest T from r s rows columns k h past =
+      let m = rows_of r s (cells T from (r * s)) in
+      let ls = resized_rows null rows columns m in
+      let l : length (drop k ls) ≡ rows - k = simp length-drop (omega (arith, length_resized rows columns m)) in
+      blank_rows columns (drop k ls)
+      (λ i j.
+      let more : k + i < rows = omega arith in
+      let none : get_or m (k + i) [] ≡ [] = row_past T from r s (k + i) (le_trans (past (omega arith)) (omega arith)) in
+      get_or-drop k ls i [] ∙ get_or_resized rows columns m (k + i) more ∙ ap (padded null columns) none ∙ padded_nothing columns)
+      ∙ ap (λ (n : ℕ). replicate (n * columns) null) l
+
+  pub resized_all : (T S U : List X) (from r s to rows columns k : ℕ) → to ≤ length T → k ≤ rows → (k < rows → r ≤ k)
+      → S ≡ put T to (joined (take k (resized_rows null rows columns (rows_of r s (cells T from (r * s))))))
+      → U ≡ put S (to + k * columns) (replicate ((rows - k) * columns) null)
+      → U ≡ put T to (resized null rows columns (rows_of r s (cells T from (r * s))))
+  resized_all T S U from r s to rows columns k within h past s' u =
+      let m = rows_of r s (cells T from (r * s)) in
+      let ls = resized_rows null rows columns m in
+      let l : k ≤ length ls = omega (arith, length_resized rows columns m) in
+      u ∙ ap (put S (to + k * columns)) (sym (blank_rest T from r s rows columns k h past))
+      ∙ ap (λ (xs : List X). put xs (to + k * columns) (joined (drop k ls))) s'
+      ∙ put_put T (joined (take k ls)) (joined (drop k ls)) to (k * columns) (length_joined columns ls (wide_resized rows columns m) k l) within
+      ∙ ap (put T to) (sym (joined_append (take k ls) (drop k ls)) ∙ ap joined (take-append-drop k ls))
 
   -- a matrix of r rows, and a row under it
   pub stacked_parts : (T : List X) (rows : List (List X)) (ys : List X) (to r s : ℕ) → length rows ≡ r → to ≤ length T → put (put T to (resized null r s rows)) (to + r * s) (padded null s ys) ≡ put T to (stacked null s rows ys)

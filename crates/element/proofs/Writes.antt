@@ -4,7 +4,7 @@ use lib.Seq.{paste}
 use borrow.Rule.Slice.PartMut.{put_mid}
 use Rattle.std.proofs.lemmas.Slice.{put_mid-paste}
 use Rattle.std.proofs.lemmas.List.Edits.{paste_none, paste_all, paste_more, paste-paste, drop-paste, length-paste}
-use Rattle.std.proofs.lemmas.List.{get_or_append_left, get_or-take, length-append, length-take-le, length-take, length-drop, length-replicate, get_or-drop, get_or-replicate, get_or-append_right, get_or_past, get_or_default, take-append-le, take-take, drop-take, drop-drop, take_all, drop_all, append-nil}
+use Rattle.std.proofs.lemmas.List.{get_or-take, length-append, length-take-le, length-take, length-drop, length-replicate, get_or-drop, take-append-le, take-take, drop-take, drop-drop, take_all, drop_all, append-nil}
 use Rattle.std.proofs.lemmas.Bool.{cases_lt}
 use Rattle.std.proofs.lemmas.List.FromFn.{length-map-range_with_len, get_or-map-range_with_len}
 use Rattle.element.specs.Cells.{put, cells, tabulate, padded}

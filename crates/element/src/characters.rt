@@ -1,18 +1,11 @@
 //! Characters as elements: signed bytes, which print as their bytes.
 ghost use Rattle.std.proofs.Common.{lit≤, rules};
-ghost use Rattle.std.specs.Prelude.{◌≡◌, pos};
+ghost use Rattle.std.specs.Prelude.{pos};
 ghost use Rattle.types.specs.declared.kinds.Kind.TheVariants.{Character};
-ghost use Rattle.element.specs.Elements.{byte_of, character_text};
+ghost use Rattle.element.specs.Elements.{character_text};
 
 use crate::elements::Element;
 use types::Kind;
-
-/// The byte with the bits of a signed byte.
-fn byte_of(character: i8) -> u8
-    ensures { result ≡ byte_of character }
-{
-    character.cast_unsigned()
-}
 
 impl Element for i8 {
     const NULL: i8 = 0;
@@ -44,7 +37,7 @@ impl Element for i8 {
     }
 
     fn write_text(self, output: &mut [u8], at: usize) -> usize {
-        output[at] = byte_of(self);
+        output[at] = self.cast_unsigned();
         at + 1
     }
 }

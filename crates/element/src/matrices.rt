@@ -1,31 +1,10 @@
 //! Matrices, stored row by row: cut, padded, stacked.
-ghost use Rattle.std.specs.Prelude.{◌≡◌, ℕ, ◌+◌, ◌*◌, ◌≤◌, max, [], length, slice_index_or};
-ghost use Rattle.element.specs.Cells.{put, cells, padded, rows_of};
+ghost use Rattle.std.specs.Prelude.{◌≡◌, ℕ, ◌+◌, ◌*◌, ◌≤◌, max, length};
+ghost use Rattle.element.specs.Cells.{put, cells, rows_of};
 ghost use Rattle.element.specs.Matrices.{resized, stacked};
 
 use crate::cells::{resize, spread};
 use crate::elements::Element;
-
-/// Writes row k of the r × s matrix from `from` on, or an empty row past its last, cut or padded with nulls to `want` cells.
-fn resize_row<E: Element>(
-    table: &mut [E],
-    from: usize,
-    r: usize,
-    s: usize,
-    k: usize,
-    to: usize,
-    want: usize,
-)
-    requires below { from + r * s ≤ to }
-    requires within { to + want ≤ length table.old }
-    ensures { table.new ≡ put table.old to (padded E.Element.NULL want (slice_index_or (rows_of r s (cells table.old from (r * s))) k [])) }
-{
-    if k < r {
-        resize(table, from + k * s, s, to, want);
-    } else {
-        spread(table, E::NULL, to, want);
-    }
-}
 
 /// Writes the r × s matrix from `from` on, cut or padded with nulls to `rows` × `columns`.
 pub fn resize_matrix<E: Element>(
@@ -41,10 +20,12 @@ pub fn resize_matrix<E: Element>(
     requires within { to + rows * columns ≤ length table.old }
     ensures { table.new ≡ put table.old to (resized E.Element.NULL rows columns (rows_of r s (cells table.old from (r * s)))) }
 {
+    let kept = r.min(rows);
     // by the row's number: a row may be 0 cells wide, and `chunks_exact_mut` refuses that
-    for k in 0..rows {
-        resize_row(table, from, r, s, k, to + k * columns, columns);
+    for k in 0..kept {
+        resize(table, from + k * s, s, to + k * columns, columns);
     }
+    spread(table, E::NULL, to + kept * columns, (rows - kept) * columns);
 }
 
 /// Writes the r × s matrix from `a` on (a vector is a matrix of one row), and under it the vector of n cells from `b` on; the result is as wide as the wider one.

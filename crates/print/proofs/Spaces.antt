@@ -1,8 +1,7 @@
 -- Texts with spaces between them, one by one: a vector's elements, or a matrix's rows, each with its text.
-use Rattle.std.proofs.Common.{◌≡◌, ℕ, zero, suc, ◌+◌, ◌-◌, ◌*◌, ◌<◌, ◌≤◌, List, [], ◌∷◌, ◌++◌, map, length, get_or, take, set, sym, refl, ap, ◌∙◌, append_assoc, add_assoc, add-zero, suc-mul, le_trans, arith}
+use Rattle.std.proofs.Common.{◌≡◌, ℕ, zero, suc, ◌+◌, ◌-◌, ◌*◌, ◌<◌, ◌≤◌, List, [], ◌∷◌, ◌++◌, map, length, get_or, take, set, sym, refl, ap, ◌∙◌, append_assoc, add_assoc, suc-mul, le_trans, arith}
 use Rattle.std.specs.List.{sum_by}
 use Rattle.std.proofs.lemmas.List.FromFn.{length-map-range_with_len}
-use Rattle.std.proofs.lemmas.List.Edits.{paste_none}
 use Rattle.std.proofs.lemmas.List.Sums.{sum_by-cons, sum_by_more, sum_by-take-le}
 use Rattle.std.proofs.lemmas.List.{append-nil, length-append, length-map, length-take, take-map, get_or-map, get_or_default, take_all}
 use Rattle.element.specs.Cells.{put, cells, joined, rows_of}
@@ -81,9 +80,6 @@ pub record Begun {X : Type 0} (text : X → List ℕ) (xs : List X) (O : List �
 module _ {X : Type 0} (text : X → List ℕ) (xs : List X) where
   text_at : (k : ℕ) (x : X) → k < length xs → x ≡ get_or xs k x → get_or (map text xs) k [] ≡ text x
   text_at k x h is = get_or-map text xs k x [] h ∙ ap text (sym is)
-
-  pub begun : (O : List ℕ) (base : ℕ) → Begun text xs O base 0 O base
-  begun O base = record { written = paste_none O base []; ends = sym (add-zero base) }
 
   -- a turn: the k-th text is written behind its gap
   pub begun_more : (O S U V : List ℕ) (base end start after k : ℕ) (x : X) → k < length xs → base ≤ length O

@@ -22,6 +22,7 @@ pub fn write_vector<E: Element>(vector: &[E], output: &mut [u8], from: usize) ->
     end + 1
 }
 
+// beside `write_vector`: a row is no element, and one body for both would take a closure with a contract longer than it
 /// Writes the text of the r × s matrix from `at` on into the output from `from` on, and says where it ends.
 pub fn write_matrix<E: Element>(
     table: &[E],

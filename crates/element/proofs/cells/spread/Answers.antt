@@ -1,4 +1,4 @@
-use Rattle.std.proofs.Common.{replicate, ap, ◌∙◌, rules}
+use Rattle.std.proofs.Common.{rules}
 use Rattle.std.proofs.lemmas.List.{length-replicate}
 use Rattle.element.proofs.Writes.{put_part, part_cells, length_cells}
 use Rattle.element.proofs.cells.spread.Goals as goal

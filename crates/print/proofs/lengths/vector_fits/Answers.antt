@@ -1,4 +1,4 @@
-use Rattle.std.proofs.Common.{arith, refl, le_trans}
+use Rattle.std.proofs.Common.{arith}
 use Rattle.element.specs.Cells.{cells}
 use Rattle.element.proofs.Writes.{length_cells}
 use Rattle.print.proofs.Spaces.{length_vector, texts_le}

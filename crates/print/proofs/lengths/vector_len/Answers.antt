@@ -28,7 +28,7 @@ texts g c =
     let part = part_cells a.table.now a.at a.n in
     let short = short_texts g.E.Element.text g.E.Element.LONGEST e.narrow e.brief a.table.now a.at a.n c.requires.within in
     let sum = sum_by_from_yields_List h (cells a.table.now a.at a.n) c.map.result c.sum-texts.result c.sum-texts.ensures.ran
-      (YieldsList-from_map _ h (YieldsList-from_slice _ (cc)) c.map.ensures.closure (λ x r q k. search (rules, tests))) in
+    (YieldsList-from_map _ h (YieldsList-from_slice _ (cc)) c.map.ensures.closure (λ x r q k. search (rules, tests))) in
     (sum, omega arith)
 
 pub overflow_add-result-2 : goal.overflow_add-result-2

@@ -1,9 +1,8 @@
-use Rattle.std.proofs.Common.{◌+◌, ◌*◌, le_refl, arith, rules}
+use Rattle.std.proofs.Common.{◌+◌, ◌*◌, arith, rules}
 use Rattle.element.specs.Cells.{cells, rows_of}
-use Rattle.element.proofs.Lines.{row_below}
 use Rattle.element.proofs.Writes.{part_cells}
 use Rattle.print.specs.Texts.{vector_text}
-use Rattle.print.proofs.Spaces.{begun, begun_more, begun_fits, begun_all, begun_end, row_is, length_rows}
+use Rattle.print.proofs.Spaces.{begun_more, begun_fits, begun_all, begun_end, row_is, length_rows}
 use Rattle.print.proofs.writes.write_matrix.Goals as goal
 
 pub write_gap-start-requires : goal.write_gap-start-requires

@@ -1,5 +1,5 @@
-use Rattle.std.proofs.Common.{arith, rules}
-use Rattle.print.proofs.Spaces.{begun, begun_more, begun_fits, begun_all, begun_end}
+use Rattle.std.proofs.Common.{rules}
+use Rattle.print.proofs.Spaces.{begun_more, begun_fits, begun_all}
 use Rattle.print.proofs.writes.write_vector.Goals as goal
 
 pub write_gap-start-requires : goal.write_gap-start-requires
@@ -14,8 +14,5 @@ pub loop-k-preserved : goal.loop-k-preserved
 loop-k-preserved g c =
     begun_more _ _ _ _ _ _ _ _ _ _ _ _ c.loop-k-test.true (search rules) c.loop-k.invariant c.write_gap-start.ensures.written c.write_gap-start.ensures.end c.write_text-end.ensures.written c.write_text-end.ensures.end c.index-vector-k.is
 
-pub bounds-output-end : goal.bounds-output-end
-bounds-output-end g c = let all = begun_end _ _ _ _ c.args.from _ _ c.loop-k-test.false c.loop-k.invariant in search rules
-
-pub returns : goal.returns
-returns g c = search (rules, begun_all, begun_end)
+pub returns-clause-written : goal.returns-clause-written
+returns-clause-written g c = search (rules, begun_all)
