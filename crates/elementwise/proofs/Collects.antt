@@ -41,9 +41,6 @@ pub record Sofar {X : Type 0} (d : X) (T : List X) (rs : List (Result X Arithmet
   pub passed : Passed d rs i
 
 module _ {X : Type 0} (T : List X) (G : ℕ → X) where
-  pub made_none : T ≡ paste T 0 (tabulate (length T) G) 0
-  made_none = paste_none T 0 (tabulate (length T) G)
-
   pub made_more : (S : List X) (i : ℕ) (v : X) → S ≡ paste T 0 (tabulate (length T) G) i → i < length T → v ≡ G i → set S i v ≡ paste T 0 (tabulate (length T) G) (i + 1)
   made_more S i v w h is = write_first T (tabulate (length T) G) S i v w h (omega (arith, length-map-range_with_len G 0 (length T))) (is ∙ sym (get_or-map-range_with_len G 0 (length T) i i v h (omega arith)))
 

@@ -40,6 +40,7 @@ fn all_fit<F: Sure>(source: &[i32], op: &F, a: Operand, b: Operand, n: usize) ->
     ensures { result ≡ true → (k : ℕ) → k < n → Within (value_at (F.Sure.value op.now) source.now a b k) }
 {
     let mut fit = true;
+    // a loop: in the closure of a fold the proof lacks a bound on k
     for k in 0..n {
         let x = source[a.place(k)];
         let y = source[b.place(k)];

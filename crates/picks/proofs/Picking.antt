@@ -25,13 +25,10 @@ module _ {X : Type 0} (null : X) (xs : List X) (js : List ℤ) where
   pub pick_all : (T S : List X) (i : ℕ) → length T ≡ length js → S ≡ paste T 0 (picked null xs js) i → length T ≤ i → S ≡ picked null xs js
   pick_all T S i l s h = written_whole T (picked null xs js) S i s h (length_picked ∙ sym l)
 
--- the two ends of a guarded write
+-- the end of a guarded write where nothing is outside
 module _ {X : Type 0} (o : Option ℕ) (T new : List X) (r : Result (Unit {0}) Outside) (T' : List X) where
   pub guarded_ok : None ≡ o → r ≡ Ok tt → T' ≡ new → Guarded o T new r T'
   guarded_ok e is after = let P : Option ℕ → Type 0 = λ o. Guarded o T new r T' in subst P e (is, after)
-
-  pub guarded_err : (k : ℕ) → Some k ≡ o → r ≡ Err (record { place = k }) → T' ≡ T → Guarded o T new r T'
-  guarded_err k e is after = let P : Option ℕ → Type 0 = λ o. Guarded o T new r T' in subst P e (is, after)
 
 -- what a check tells
 pub told_none : (o : Option ℕ) → Ok tt ≡ told o → None ≡ o

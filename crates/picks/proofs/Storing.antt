@@ -1,5 +1,5 @@
 -- Loops that store elements by indices.
-use Rattle.std.proofs.Common.{◌≡◌, ℕ, zero, suc, ◌+◌, ◌-◌, ◌*◌, ◌<◌, ◌≤◌, true, false, cond, List, [], ◌∷◌, ◌++◌, length, get_or, take, drop, set, replicate, ℤ, pos, Some, None, Option, Ok, sym, refl, ap, ◌∙◌, le_refl, arith}
+use Rattle.std.proofs.Common.{◌≡◌, ℕ, zero, suc, ◌+◌, ◌-◌, ◌*◌, ◌<◌, ◌≤◌, true, List, [], ◌∷◌, ◌++◌, length, get_or, take, drop, set, ℤ, pos, Some, None, Option, Ok, sym, refl, ap, ◌∙◌, le_refl, arith}
 use lib.Seq.{paste}
 use Rattle.std.proofs.lemmas.List.{length-set, length-replicate, get_or-replicate, get_or_default, get_or-drop, take_all, length-append, length-take-le, set-append_left, set-append_right, take-append-drop, drop-drop, append_assoc}
 use Rattle.std.proofs.lemmas.Bool.{cond-true}

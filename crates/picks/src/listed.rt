@@ -60,6 +60,7 @@ impl<'i, 't, E: Element, I: Integers<E>> Listed<'i, 't, E, I> {
         requires { before + length self.now < 2 ^ 64 }
         ensures { result ≡ told (first_outside (before + 1) n self.now) }
     {
+        // by number: the indices of an interval stand in no slice
         for k in 0..self.count() {
             if place_among(self.at(k), n).is_none() {
                 return Err(Outside {

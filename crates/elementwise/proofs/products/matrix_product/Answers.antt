@@ -3,7 +3,8 @@ use Rattle.std.proofs.lemmas.Nat.{div_below}
 use Rattle.element.specs.Cells.{cells, tabulate}
 use Rattle.elementwise.specs.Products.{dot, strided}
 use Rattle.elementwise.proofs.Collects.{made_as}
-use Rattle.elementwise.proofs.Grids.{row_below, some_columns}
+use Rattle.element.proofs.Lines.{row_below}
+use Rattle.elementwise.proofs.Grids.{some_columns}
 use Rattle.elementwise.proofs.Matrices.{products_by_place}
 use Rattle.element.proofs.Parts.{target_long}
 use Rattle.elementwise.proofs.Parts.{wrote_part}

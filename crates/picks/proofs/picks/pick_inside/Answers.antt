@@ -1,5 +1,4 @@
 use Rattle.std.proofs.Common.{rules}
-use Rattle.std.proofs.lemmas.List.Edits.{paste_none}
 use Rattle.picks.proofs.Picking.{pick_more, pick_all}
 use Rattle.picks.proofs.picks.pick_inside.Goals as goal
 

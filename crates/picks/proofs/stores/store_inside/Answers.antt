@@ -1,9 +1,9 @@
-use Rattle.std.proofs.Common.{ℕ, ◌+◌, List, length, get_or, take, drop, ℤ, pos, sym, ap, ◌∙◌, subst, arith, rules}
+use Rattle.std.proofs.Common.{ℕ, ◌+◌, List, length, get_or, take, drop, ℤ, pos, sym, ap, ◌∙◌, subst, arith}
 use Rattle.element.specs.Cells.{cells}
 use Rattle.element.specs.Operands.{along}
 use Rattle.picks.specs.Indices.{indices_of, index_count, place_of, AllInside}
 use Rattle.picks.specs.Stores.{stored}
-use Rattle.picks.proofs.Indexing.{length_indices, still_above, still_within}
+use Rattle.picks.proofs.Indexing.{length_indices, still_above}
 use Rattle.picks.proofs.Storing.{put_same, drop_above, length_stored, length_along, store_more, store_all}
 use Rattle.element.proofs.Writes.{length_cells}
 use Rattle.picks.proofs.stores.store_inside.Goals as goal

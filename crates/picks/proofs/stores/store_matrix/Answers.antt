@@ -1,4 +1,4 @@
-use Rattle.std.proofs.Common.{ap, ◌∙◌, refl, to_z-of_z, arith, rules}
+use Rattle.std.proofs.Common.{refl, to_z-of_z, arith, rules}
 use Rattle.picks.proofs.Indexing.{placed, inside_bound}
 use Rattle.picks.proofs.Picking.{guarded_ok}
 use Rattle.picks.proofs.Storing.{cell_placed, both_inside, store_cell}

@@ -1,7 +1,7 @@
 use Rattle.std.proofs.Common.{◌<◌, arith, rules}
 use Rattle.std.proofs.lemmas.Int.{ints}
 use Rattle.picks.specs.Indices.{index_count}
-use Rattle.picks.proofs.Indexing.{count_listed, at_listed, at_cells, at_interval}
+use Rattle.picks.proofs.Indexing.{count_listed, at_listed, at_interval}
 use Rattle.picks.proofs.listed.Listed.at.Goals as goal
 
 pub nth_between-requires : goal.nth_between-requires
