@@ -22,6 +22,7 @@ pub fn step_by<E: Element>(table: &mut [E], from: usize, n: usize, step: usize, 
 {
     let (below, above) = table.split_at_mut(to);
     let target = &mut above[..step_count(n, step)];
+    // tried as `zip` with `iter().step_by(step)`: no proof, since nothing is known of what a loop over `zip` wrote
     for (k, cell) in target.iter_mut().enumerate() {
         *cell = below[from + k * step];
     }
