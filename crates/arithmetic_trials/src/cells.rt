@@ -2,9 +2,9 @@
 use arithmetic::faults::ElementFault;
 use arithmetic::integers::Arithmetic;
 use arithmetic::truths::{Logic, Order};
+use element::operands::Operand;
 use elementwise::casts::cast;
 use elementwise::infix::{calculate, compare, decide};
-use elementwise::operands::Operand;
 use elementwise::prefix::{negate, not};
 use elementwise::products::{dot_product, matrix_product};
 use std::io;
@@ -27,8 +27,8 @@ fn written(
 
 /// Two vectors of four integers.
 pub(crate) fn vectors(rt: &HostRuntime) -> io::Result<()> {
-    let a = Operand::run(0);
-    let b = Operand::run(4);
+    let a = Operand::Run(0);
+    let b = Operand::Run(4);
     let mut t = [1, 2, i32::MAX, i32::MAX, 10, 20, 0, 1, 0, 0, 0, 0, 77];
     let r = calculate(&mut t, Arithmetic::Add, a, b, 8, 3);
     written(rt, "three sums", r, &t)?;
@@ -46,8 +46,8 @@ pub(crate) fn vectors(rt: &HostRuntime) -> io::Result<()> {
 
 /// A scalar on either side.
 pub(crate) fn scalars(rt: &HostRuntime) -> io::Result<()> {
-    let v = Operand::run(0);
-    let x = Operand::scalar(3);
+    let v = Operand::Run(0);
+    let x = Operand::Scalar(3);
     let mut t = [1, 2, -3, 2, 0, 0, 0, 77];
     let r = calculate(&mut t, Arithmetic::Subtract, v, x, 4, 3);
     written(rt, "vector - scalar", r, &t)?;
@@ -62,20 +62,20 @@ pub(crate) fn scalars(rt: &HostRuntime) -> io::Result<()> {
 /// Orders, logic and casts.
 pub(crate) fn booleans(rt: &HostRuntime) -> io::Result<()> {
     let integers = [-1, 0, 128, 0];
-    let a = Operand::run(0);
+    let a = Operand::Run(0);
     let mut b = [false; 9];
-    compare(&integers, &mut b, Order::Less, a, Operand::scalar(1), 0, 3);
+    compare(&integers, &mut b, Order::Less, a, Operand::Scalar(1), 0, 3);
     compare(
         &integers,
         &mut b,
         Order::AtMost,
-        Operand::scalar(1),
+        Operand::Scalar(1),
         a,
         3,
         3,
     );
     println!(rt; "v < 0, 0 <= v: {b:?}")?;
-    decide(&mut b, Logic::Xor, a, Operand::run(3), 6, 3);
+    decide(&mut b, Logic::Xor, a, Operand::Run(3), 6, 3);
     println!(rt; "xor: {b:?}")?;
     not(&mut b, 3, 6, 3);
     println!(rt; "not: {b:?}")?;

@@ -1,8 +1,8 @@
 //! A row takes up an element's fault as its own: by `From`, carried by `?`, with row, line and element.
 use arithmetic::faults::at_row;
 use arithmetic::integers::Arithmetic;
+use element::operands::Operand;
 use elementwise::infix::calculate;
-use elementwise::operands::Operand;
 use fault::{Cause, Fault};
 use std::io;
 
@@ -14,8 +14,8 @@ fn quotients(table: &mut [i32], row: u16, line: u16) -> Result<(), Fault> {
     let worked = calculate(
         table,
         Arithmetic::Divide,
-        Operand::run(0),
-        Operand::run(3),
+        Operand::Run(0),
+        Operand::Run(3),
         6,
         3,
     );

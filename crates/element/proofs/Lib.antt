@@ -2,3 +2,4 @@ pub mod Writes
 pub mod Stepping
 pub mod Lines
 pub mod Comparing
+pub mod Parts

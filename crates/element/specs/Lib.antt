@@ -3,3 +3,4 @@ pub mod Elements
 pub mod Brief
 pub mod Steps
 pub mod Matrices
+pub mod Operands

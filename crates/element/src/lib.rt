@@ -8,6 +8,7 @@ pub mod elements;
 pub mod equality;
 mod integers;
 pub mod matrices;
+pub mod operands;
 pub mod steps;
 
 pub use elements::Element;

@@ -1,6 +1,7 @@
 //! Elements stored at indices, where later ones win.
 use crate::show::{show_matrix, show_vector};
-use picks::{Index, Outside, Values, Within, store, store_matrix};
+use element::operands::Operand;
+use picks::{Index, Outside, Within, store, store_matrix};
 
 /// Says which index was outside, if one was.
 fn tell(rt: &HostRuntime, name: &str, answer: Result<(), Outside>) -> anyhow::Result<()> {
@@ -19,10 +20,7 @@ pub(crate) fn vectors(rt: &HostRuntime) -> anyhow::Result<()> {
         3,
         &Within,
         Index::Cells { at: 3, count: 3 },
-        Values {
-            at: 6,
-            spread: false,
-        },
+        Operand::Run(6),
     );
     tell(rt, "[7 8 9] at [1 3 1]", answer)?;
     show_vector(rt, "the variable then", &table, 0, 3)?;
@@ -32,10 +30,7 @@ pub(crate) fn vectors(rt: &HostRuntime) -> anyhow::Result<()> {
         3,
         &Within,
         Index::Interval { low: 2, high: 3 },
-        Values {
-            at: 6,
-            spread: true,
-        },
+        Operand::Scalar(6),
     );
     tell(rt, "7 at 2..3", answer)?;
     show_vector(rt, "the variable then", &table, 0, 3)?;
@@ -45,10 +40,7 @@ pub(crate) fn vectors(rt: &HostRuntime) -> anyhow::Result<()> {
         2,
         &Within,
         Index::Cells { at: 3, count: 3 },
-        Values {
-            at: 6,
-            spread: false,
-        },
+        Operand::Run(6),
     );
     tell(rt, "two elements, [7 8 9] at [1 3 1]", answer)?;
     show_vector(rt, "the variable then", &table, 0, 3)

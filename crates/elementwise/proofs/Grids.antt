@@ -1,13 +1,10 @@
 -- Lists made from a function of the index, and of a row and a column.
-use Rattle.std.proofs.Common.{◌≡◌, ℕ, zero, suc, ◌+◌, ◌*◌, ◌/◌, ◌%◌, ◌<◌, ◌≤◌, List, [], ◌∷◌, ◌++◌, length, sym, ap, ◌∙◌, append_assoc, le_refl, add-zero, suc-mul, mul-zero, zero-mul, add-one, arith}
-use Rattle.std.proofs.lemmas.Nat.{mul-le, div-mul-add, mod-mul-add}
+use Rattle.std.proofs.Common.{◌≡◌, ℕ, zero, suc, ◌+◌, ◌*◌, ◌/◌, ◌%◌, ◌<◌, List, [], ◌∷◌, ◌++◌, length, sym, ap, ◌∙◌, append_assoc, add-zero, suc-mul, mul-zero, zero-mul, add-one, arith}
+use Rattle.std.proofs.lemmas.Nat.{div-mul-add, mod-mul-add}
 use Rattle.std.proofs.lemmas.List.FromFn.{get_or-map-range_with_len, length-map-range_with_len, map-range_with_len_more}
 use Rattle.std.proofs.lemmas.List.{same_lists, append-nil}
 use Rattle.element.specs.Cells.{tabulate, joined}
-
--- row i ends at or before the end of r rows
-pub row_below : (i r w n : ℕ) → i < r → n ≤ w → i * w + n ≤ r * w
-row_below i r w n h k = omega (arith, mul-le (suc i) w r w h (le_refl w), suc-mul i w)
+use Rattle.element.proofs.Lines.{joined_push}
 
 -- a matrix that has an element has a column
 pub some_columns : (r s k : ℕ) → k < r * s → 0 < s
@@ -36,10 +33,6 @@ module _ {X : Type 0} where
       ∙ ap (λ (xs : List X). xs ++ f (m + n) ∷ []) (tabulate_add m n f)
       ∙ append_assoc (tabulate m f) (tabulate n (λ k. f (m + k))) (f (m + n) ∷ [])
       ∙ ap (λ (xs : List X). tabulate m f ++ xs) (sym (tabulate_suc n (λ k. f (m + k))))
-
-  joined_push : (xss : List (List X)) (ys : List X) → joined (xss ++ ys ∷ []) ≡ joined xss ++ ys
-  joined_push [] ys = append-nil ys
-  joined_push (xs ∷ xss) ys = ap (λ (zs : List X). xs ++ zs) (joined_push xss ys) ∙ sym (append_assoc xs (joined xss) ys)
 
 -- element k of a matrix with s columns is in row k / s and column k % s
 pub grid : {X : Type 0} (f : ℕ → ℕ → X) (r s : ℕ) → tabulate (r * s) (λ k. f (k / s) (k % s)) ≡ joined (tabulate r (λ i. tabulate s (f i)))

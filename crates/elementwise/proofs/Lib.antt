@@ -3,4 +3,5 @@ pub mod Collects
 pub mod Fitting
 pub mod Grids
 pub mod Matrices
+pub mod Parts
 pub mod Sums

@@ -1,22 +1,15 @@
 -- Rows and columns of matrices that lie in a table.
-use Rattle.std.proofs.Common.{◌≡◌, ℕ, suc, ◌+◌, ◌-◌, ◌*◌, ◌/◌, ◌%◌, ◌<◌, ◌≤◌, List, length, get_or, take, drop, ℤ, pos, Result, sym, ap, ◌∙◌, le_refl, arith}
+use Rattle.std.proofs.Common.{◌≡◌, ℕ, suc, ◌+◌, ◌*◌, ◌/◌, ◌%◌, ◌<◌, ◌≤◌, List, length, get_or, take, ℤ, pos, Result, sym, ap, ◌∙◌, le_refl, arith}
 use Rattle.std.specs.Result.{result_map_both}
 use Rattle.std.proofs.lemmas.List.FromFn.{get_or-map-range_with_len, length-map-range_with_len}
-use Rattle.std.proofs.lemmas.List.{same_lists, get_or_default, get_or-take, drop-take, take-take}
+use Rattle.std.proofs.lemmas.List.{same_lists, get_or_default, get_or-take}
 use Rattle.arithmetic.specs.declared.faults.ArithmeticFault.{ArithmeticFault}
 use Rattle.arithmetic.specs.Faults.{at_element}
 use Rattle.element.specs.Cells.{cells, tabulate, joined}
-use Rattle.element.proofs.Writes.{length_cells, get_or_cells, take_cells, drop_cells}
+use Rattle.element.proofs.Lines.{row_below, cells_cells}
+use Rattle.element.proofs.Writes.{length_cells, get_or_cells, cells_take}
 use Rattle.elementwise.specs.Products.{dot, strided, row_at, column_at, products}
-use Rattle.elementwise.proofs.Grids.{row_below, tabulate_same, grid}
-
--- cells of cells
-cells_cells : (T : List ℤ) (a n p q : ℕ) → p + q ≤ n → cells (cells T a n) p q ≡ cells T (a + p) q
-cells_cells T a n p q h = ap (take q) (drop_cells T a n p (omega arith)) ∙ take_cells T (a + p) (n - p) q (omega arith)
-
--- cells below `to`
-cells_part : (T : List ℤ) (to at n : ℕ) → at + n ≤ to → cells (take to T) at n ≡ cells T at n
-cells_part T to at n h = sym (drop-take at n (take to T)) ∙ ap (drop at) (take-take (at + n) to T h) ∙ drop-take at n T
+use Rattle.elementwise.proofs.Grids.{tabulate_same, grid}
 
 -- elements side by side
 pub strided_one : (T : List ℤ) (b n : ℕ) → b + n ≤ length T → strided T b 1 n ≡ cells T b n
@@ -39,7 +32,7 @@ module _ (T : List ℤ) (to a b r m s : ℕ) (left : a + r * m ≤ to) (right : 
   row : (i : ℕ) → i < r → cells (take to T) (a + i * m) m ≡ row_at (cells T a (r * m)) m i
   row i h =
       let e : i * m + m ≤ r * m = row_below i r m m h (le_refl m) in
-      cells_part T to (a + i * m) m (omega arith) ∙ sym (cells_cells T a (r * m) (i * m) m e)
+      cells_take T to (a + i * m) m (omega arith) ∙ sym (cells_cells T a (r * m) (i * m) m e)
 
   column : (j : ℕ) → j < s → strided (take to T) (b + j) s m ≡ column_at (cells T b (m * s)) m s j
   column j h =

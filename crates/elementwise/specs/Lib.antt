@@ -1,4 +1,3 @@
-pub mod Operands
 pub mod Products
 pub mod Results
 pub mod Sure

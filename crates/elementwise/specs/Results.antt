@@ -21,6 +21,11 @@ collected k [] = Ok []
 collected k (Ok x ∷ rs) = before x (collected (k + 1) rs)
 collected k (Err f ∷ rs) = Err (at_element k f)
 
+-- afterwards the cells are the new ones, or the fault is told
+abbrev pub Made : {X E : Type 0} → Result (List X) E → Result (Unit {0}) E → List X → Type 0
+Made (Ok new) r cells' = (r ≡ Ok tt) × (cells' ≡ new)
+Made (Err e) r cells' = r ≡ Err e
+
 -- afterwards the table has the new cells from `at` on, and nothing else changed; or the fault is told, those n cells are free, and nothing else changed
 abbrev pub Wrote : {X E : Type 0} → Result (List X) E → List X → ℕ → ℕ → Result (Unit {0}) E → List X → Type 0
 Wrote (Ok new) table at n r table' = (r ≡ Ok tt) × (table' ≡ put table at new)

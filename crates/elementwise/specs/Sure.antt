@@ -1,8 +1,8 @@
 -- Integers that fit 32 bits, and values of two operands that do.
 use Rattle.std.specs.Prelude.{ℕ, ◌^◌, ◌<◌, List, length, ℤ, pos, slice_index_or}
 use Rattle.std.specs.Int.Signed.{mag}
-use Rattle.elementwise.specs.declared.operands.Operand.{Operand}
-use Rattle.elementwise.specs.Operands.{place_of}
+use Rattle.element.specs.declared.operands.Operand.{Operand}
+use Rattle.element.specs.Operands.{place_of}
 
 -- z lies from -2^31 to 2^31 - 1 (`mag` is n both for n and for -(n + 1))
 abbrev pub Within : ℤ → Type 0

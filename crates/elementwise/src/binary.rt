@@ -1,14 +1,13 @@
 //! Operators of two elements along two operands.
-ghost use Rattle.std.specs.Prelude.{◌≡◌, ℕ, ◌+◌, ◌<◌, ◌≤◌, length, slice_index_or};
-ghost use Rattle.element.specs.Cells.{put};
-ghost use Rattle.elementwise.specs.Operands.{place_of, end_of, along};
-ghost use Rattle.elementwise.specs.Results.{map2, collected, Wrote};
+ghost use Rattle.std.specs.Prelude.{◌≡◌, ℕ, ◌<◌, ◌≤◌, length, slice_index_or};
+ghost use Rattle.element.specs.Operands.{place_of, end_of, along};
+ghost use Rattle.elementwise.specs.Results.{map2, collected, Made};
 
-use crate::operands::Operand;
-use crate::rules::{Rule, make, make_from, write};
+use crate::rules::{Rule, make, try_make};
 use arithmetic::faults::{ArithmeticFault, ElementFault};
 use arithmetic::operators::Operator;
 use element::Element;
+use element::operands::Operand;
 
 /// An operator and its operands.
 #[derive(Clone, Copy)]
@@ -19,9 +18,9 @@ pub struct Between<F> {
 }
 
 impl<X: Element, Y, F: Operator<X, Y>> Rule<X, Y> for Between<F> {
-    ghost can = { λ s table k. (place_of s.a k < length table) × (place_of s.b k < length table) };
+    ghost can = { λ s source k. (place_of s.a k < length source) × (place_of s.b k < length source) };
 
-    ghost gives = { λ s table k. F.Operator.gives s.op (slice_index_or table (place_of s.a k) X.Element.null) (slice_index_or table (place_of s.b k) X.Element.null) };
+    ghost gives = { λ s source k. F.Operator.gives s.op (slice_index_or source (place_of s.a k) X.Element.NULL) (slice_index_or source (place_of s.b k) X.Element.NULL) };
 
     fn cell(&self, source: &[X], k: usize) -> Y {
         let x = source[self.a.place(k)];
@@ -30,54 +29,32 @@ impl<X: Element, Y, F: Operator<X, Y>> Rule<X, Y> for Between<F> {
     }
 }
 
-/// Writes what an operator that may fault gives along two operands of the same table.
-pub fn try_combine<E: Element, F: Operator<E, Result<E, ArithmeticFault>> + Copy>(
-    table: &mut [E],
-    op: F,
-    a: Operand,
-    b: Operand,
-    to: usize,
-    n: usize,
-) -> Result<(), ElementFault>
-    requires left { end_of a n ≤ to }
-    requires right { end_of b n ≤ to }
-    requires within { to + n ≤ length table.old }
-    ensures { Wrote (collected 1 (map2 (F.Operator.gives op) (along E.Element.null table.old a n) (along E.Element.null table.old b n))) table.old to n result table.new }
-{
-    write(table, to, n, &Between { op, a, b })
-}
-
-/// Writes what an operator gives along two operands of the same table.
-pub fn combine<E: Element, F: Operator<E, E> + Copy>(
-    table: &mut [E],
-    op: F,
-    a: Operand,
-    b: Operand,
-    to: usize,
-    n: usize,
-)
-    requires left { end_of a n ≤ to }
-    requires right { end_of b n ≤ to }
-    requires within { to + n ≤ length table.old }
-    ensures { table.new ≡ put table.old to (map2 (F.Operator.gives op) (along E.Element.null table.old a n) (along E.Element.null table.old b n)) }
-{
-    make(table, to, n, &Between { op, a, b });
-}
-
-/// Writes what an operator gives along two operands of another table.
-pub fn combine_from<S: Element, E: Element, F: Operator<S, E> + Copy>(
+/// Writes what an operator gives along two operands.
+pub fn combine<S: Element, E: Element, F: Operator<S, E> + Copy>(
     source: &[S],
-    table: &mut [E],
+    target: &mut [E],
     op: F,
     a: Operand,
     b: Operand,
-    to: usize,
-    n: usize,
 )
-    requires left { end_of a n ≤ length source.now }
-    requires right { end_of b n ≤ length source.now }
-    requires within { to + n ≤ length table.old }
-    ensures { table.new ≡ put table.old to (map2 (F.Operator.gives op) (along S.Element.null source.now a n) (along S.Element.null source.now b n)) }
+    requires left { end_of a (length target.old) ≤ length source.now }
+    requires right { end_of b (length target.old) ≤ length source.now }
+    ensures { target.new ≡ map2 (F.Operator.gives op) (along S.Element.NULL source.now a (length target.old)) (along S.Element.NULL source.now b (length target.old)) }
 {
-    make_from(source, table, to, n, &Between { op, a, b });
+    make(source, target, &Between { op, a, b });
+}
+
+/// Writes what an operator that may fault gives along two operands, up to the first fault.
+pub fn try_combine<S: Element, E: Element, F: Operator<S, Result<E, ArithmeticFault>> + Copy>(
+    source: &[S],
+    target: &mut [E],
+    op: F,
+    a: Operand,
+    b: Operand,
+) -> Result<(), ElementFault>
+    requires left { end_of a (length target.old) ≤ length source.now }
+    requires right { end_of b (length target.old) ≤ length source.now }
+    ensures { Made (collected 1 (map2 (F.Operator.gives op) (along S.Element.NULL source.now a (length target.old)) (along S.Element.NULL source.now b (length target.old)))) result target.new }
+{
+    try_make(source, target, &Between { op, a, b })
 }

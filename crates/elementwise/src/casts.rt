@@ -1,8 +1,8 @@
 //! Casts of a value to another kind, element by element.
-ghost use Rattle.std.specs.Prelude.{◌≡◌, ℕ, ◌+◌, ◌≤◌, map, length};
+ghost use Rattle.std.specs.Prelude.{◌≡◌, ◌+◌, ◌≤◌, map, length};
 ghost use Rattle.element.specs.Cells.{put, cells};
 
-use crate::unary::map_from;
+use crate::unary::map;
 use arithmetic::casts::{Cast, CastTo};
 use element::Element;
 
@@ -19,5 +19,5 @@ pub fn cast<S: Element + CastTo<E>, E: Element>(
     requires within { to + n ≤ length table.old }
     ensures { table.new ≡ put table.old to (map S.CastTo.casts (cells source.now at n)) }
 {
-    map_from(source, table, Cast, at, to, n);
+    map(&source[at..at + n], &mut table[to..to + n], Cast);
 }

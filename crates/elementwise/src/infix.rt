@@ -3,15 +3,15 @@ ghost use Rattle.std.specs.Prelude.{◌≡◌, ℕ, ◌+◌, ◌≤◌, false, l
 ghost use Rattle.arithmetic.specs.Exact.{exact};
 ghost use Rattle.arithmetic.specs.Truths.{ordered, decided};
 ghost use Rattle.element.specs.Cells.{put};
-ghost use Rattle.elementwise.specs.Operands.{end_of, along};
+ghost use Rattle.element.specs.Operands.{end_of, along};
 ghost use Rattle.elementwise.specs.Results.{map2, collected, Wrote};
 
-use crate::binary::{combine, combine_from, try_combine};
-use crate::operands::Operand;
+use crate::binary::{combine, try_combine};
 use crate::sure::try_combine_sure;
 use arithmetic::faults::ElementFault;
 use arithmetic::integers::{Arithmetic, Difference, Power, Product, Quotient, Remainder, Sum};
 use arithmetic::truths::{Above, Logic, NotAbove, NotUnder, Order, Under};
+use element::operands::Operand;
 
 /// Writes n integers from `to` on: what an operator gives of each pair of elements, up to the first fault.
 pub fn calculate(
@@ -27,13 +27,15 @@ pub fn calculate(
     requires within { to + n ≤ length table.old }
     ensures { Wrote (collected 1 (map2 (exact op) (along (pos 0) table.old a n) (along (pos 0) table.old b n))) table.old to n result table.new }
 {
+    let (source, rest) = table.split_at_mut(to);
+    let target = &mut rest[..n];
     match op {
-        Arithmetic::Add => try_combine_sure(table, Sum, a, b, to, n),
-        Arithmetic::Subtract => try_combine_sure(table, Difference, a, b, to, n),
-        Arithmetic::Multiply => try_combine(table, Product, a, b, to, n),
-        Arithmetic::Divide => try_combine(table, Quotient, a, b, to, n),
-        Arithmetic::Remainder => try_combine(table, Remainder, a, b, to, n),
-        Arithmetic::Power => try_combine(table, Power, a, b, to, n),
+        Arithmetic::Add => try_combine_sure(source, target, Sum, a, b),
+        Arithmetic::Subtract => try_combine_sure(source, target, Difference, a, b),
+        Arithmetic::Multiply => try_combine(source, target, Product, a, b),
+        Arithmetic::Divide => try_combine(source, target, Quotient, a, b),
+        Arithmetic::Remainder => try_combine(source, target, Remainder, a, b),
+        Arithmetic::Power => try_combine(source, target, Power, a, b),
     }
 }
 
@@ -52,11 +54,12 @@ pub fn compare(
     requires within { to + n ≤ length booleans.old }
     ensures { booleans.new ≡ put booleans.old to (map2 (ordered order) (along (pos 0) integers.now a n) (along (pos 0) integers.now b n)) }
 {
+    let target = &mut booleans[to..to + n];
     match order {
-        Order::Less => combine_from(integers, booleans, Under, a, b, to, n),
-        Order::Greater => combine_from(integers, booleans, Above, a, b, to, n),
-        Order::AtMost => combine_from(integers, booleans, NotAbove, a, b, to, n),
-        Order::AtLeast => combine_from(integers, booleans, NotUnder, a, b, to, n),
+        Order::Less => combine(integers, target, Under, a, b),
+        Order::Greater => combine(integers, target, Above, a, b),
+        Order::AtMost => combine(integers, target, NotAbove, a, b),
+        Order::AtLeast => combine(integers, target, NotUnder, a, b),
     }
 }
 
@@ -67,5 +70,6 @@ pub fn decide(table: &mut [bool], op: Logic, a: Operand, b: Operand, to: usize, 
     requires within { to + n ≤ length table.old }
     ensures { table.new ≡ put table.old to (map2 (decided op) (along false table.old a n) (along false table.old b n)) }
 {
-    combine(table, op, a, b, to, n);
+    let (source, rest) = table.split_at_mut(to);
+    combine(source, &mut rest[..n], op, a, b);
 }

@@ -4,7 +4,6 @@
 pub mod binary;
 pub mod casts;
 pub mod infix;
-pub mod operands;
 pub mod prefix;
 pub mod products;
 pub mod rules;

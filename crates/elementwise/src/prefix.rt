@@ -15,7 +15,8 @@ pub fn negate(table: &mut [i32], at: usize, to: usize, n: usize) -> Result<(), E
     requires within { to + n ≤ length table.old }
     ensures { Wrote (collected 1 (map negated (cells table.old at n))) table.old to n result table.new }
 {
-    try_map(table, Negative, at, to, n)
+    let (source, rest) = table.split_at_mut(to);
+    try_map(&source[at..at + n], &mut rest[..n], Negative)
 }
 
 /// Writes the opposites of n booleans from `to` on.
@@ -24,5 +25,6 @@ pub fn not(table: &mut [bool], at: usize, to: usize, n: usize)
     requires within { to + n ≤ length table.old }
     ensures { table.new ≡ put table.old to (map negation (cells table.old at n)) }
 {
-    map(table, Negation, at, to, n);
+    let (source, rest) = table.split_at_mut(to);
+    map(&source[at..at + n], &mut rest[..n], Negation);
 }

@@ -6,7 +6,7 @@ ghost use Rattle.element.specs.Cells.{cells};
 ghost use Rattle.elementwise.specs.Products.{with_product, dot, strided, products};
 ghost use Rattle.elementwise.specs.Results.{collected, Wrote};
 
-use crate::rules::{Rule, write};
+use crate::rules::{Rule, try_make};
 use arithmetic::faults::{ArithmeticFault, ElementFault};
 use arithmetic::integers::{Product, Sum};
 use arithmetic::operators::Operator;
@@ -32,8 +32,8 @@ fn inner(
     ensures { result ≡ dot (cells source.now a n) (strided source.now b stride n) }
 {
     let mut sum = 0;
-    for k in 0..n {
-        sum = add_product(sum, source[a + k], source[b + k * stride])?;
+    for (k, x) in source[a..a + n].iter().enumerate() {
+        sum = add_product(sum, *x, source[b + k * stride])?;
     }
     Ok(sum)
 }
@@ -86,15 +86,12 @@ pub fn matrix_product(
     requires within { to + rows * columns ≤ length table.old }
     ensures { Wrote (collected 1 (products rows middle columns (cells table.old a (rows * middle)) (cells table.old b (middle * columns)))) table.old to (rows * columns) result table.new }
 {
-    write(
-        table,
-        to,
-        rows * columns,
-        &Matrices {
-            a,
-            b,
-            middle,
-            columns,
-        },
-    )
+    let (source, rest) = table.split_at_mut(to);
+    let product = Matrices {
+        a,
+        b,
+        middle,
+        columns,
+    };
+    try_make(source, &mut rest[..rows * columns], &product)
 }

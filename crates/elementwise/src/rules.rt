@@ -1,13 +1,13 @@
-//! Cells written one after another, each by a rule: proved once for every operation.
-ghost use Rattle.std.specs.Prelude.{◌≡◌, ℕ, ◌+◌, ◌^◌, ◌<◌, ◌≤◌, List, length, take};
+//! New cells, each by a rule over other cells: proved once for every operation.
+ghost use Rattle.std.specs.Prelude.{◌≡◌, ℕ, ◌+◌, ◌^◌, ◌<◌, List, length};
 ghost use Rattle.arithmetic.specs.Faults.{at_element};
-ghost use Rattle.element.specs.Cells.{put, tabulate};
-ghost use Rattle.elementwise.specs.Results.{collected, Wrote};
+ghost use Rattle.element.specs.Cells.{tabulate};
+ghost use Rattle.elementwise.specs.Results.{collected, Made};
 
 use arithmetic::faults::{ArithmeticFault, ElementFault};
 use element::Element;
 
-/// How the k-th new cell comes from a table of cells of type S: as a Y, an element or a result.
+/// How the k-th new cell comes from cells of type S: as a Y, an element or a result.
 pub trait Rule<S, Y> {
     /// Whether it may be asked for the k-th cell.
     ghost can: { Self → List S → ℕ → Type 0 };
@@ -15,7 +15,7 @@ pub trait Rule<S, Y> {
     /// The k-th cell.
     ghost gives: { Self → List S → ℕ → Y };
 
-    /// The k-th new cell, from 0, over the table `source`.
+    /// The k-th new cell, from 0, over the cells of `source`.
     fn cell(&self, source: &[S], k: usize) -> Y
         requires { can self.now source.now k }
         ensures { result ≡ gives self.now source.now k };
@@ -32,50 +32,30 @@ fn at_place(k: usize, fault: ArithmeticFault) -> ElementFault
     }
 }
 
-/// Writes n cells from `to` on, by a rule over the cells below `to` that may fault.
-pub fn write<E: Element, R: Rule<E, Result<E, ArithmeticFault>>>(
-    table: &mut [E],
-    to: usize,
-    n: usize,
+/// Writes each cell of `target` by a rule that cannot fault.
+pub fn make<S, E: Element, R: Rule<S, E>>(source: &[S], target: &mut [E], rule: &R)
+    requires reads { (k : ℕ) → k < length target.old → R.Rule.can rule.now source.now k }
+    ensures { target.new ≡ tabulate (length target.old) (R.Rule.gives rule.now source.now) }
+{
+    for (k, cell) in target.iter_mut().enumerate() {
+        *cell = rule.cell(source, k);
+    }
+}
+
+/// Writes each cell of `target` by a rule that may fault, up to the first fault.
+pub fn try_make<S, E: Element, R: Rule<S, Result<E, ArithmeticFault>>>(
+    source: &[S],
+    target: &mut [E],
     rule: &R,
 ) -> Result<(), ElementFault>
-    requires within { to + n ≤ length table.old }
-    requires reads { (k : ℕ) → k < n → R.Rule.can rule.now (take to table.old) k }
-    ensures { Wrote (collected 1 (tabulate n (R.Rule.gives rule.now (take to table.old)))) table.old to n result table.new }
+    requires reads { (k : ℕ) → k < length target.old → R.Rule.can rule.now source.now k }
+    ensures { Made (collected 1 (tabulate (length target.old) (R.Rule.gives rule.now source.now))) result target.new }
 {
-    for k in 0..n {
-        match rule.cell(&table[0..to], k) {
-            Ok(value) => table[to + k] = value,
+    for (k, cell) in target.iter_mut().enumerate() {
+        match rule.cell(source, k) {
+            Ok(value) => *cell = value,
             Err(fault) => return Err(at_place(k, fault)),
         }
     }
     Ok(())
-}
-
-/// Writes n cells from `to` on, by a rule over the cells below `to`.
-pub fn make<E: Element, R: Rule<E, E>>(table: &mut [E], to: usize, n: usize, rule: &R)
-    requires within { to + n ≤ length table.old }
-    requires reads { (k : ℕ) → k < n → R.Rule.can rule.now (take to table.old) k }
-    ensures { table.new ≡ put table.old to (tabulate n (R.Rule.gives rule.now (take to table.old))) }
-{
-    for k in 0..n {
-        table[to + k] = rule.cell(&table[0..to], k);
-    }
-}
-
-/// Writes n cells from `to` on, by a rule over the cells of another table.
-pub fn make_from<S: Element, E: Element, R: Rule<S, E>>(
-    source: &[S],
-    table: &mut [E],
-    to: usize,
-    n: usize,
-    rule: &R,
-)
-    requires within { to + n ≤ length table.old }
-    requires reads { (k : ℕ) → k < n → R.Rule.can rule.now source.now k }
-    ensures { table.new ≡ put table.old to (tabulate n (R.Rule.gives rule.now source.now)) }
-{
-    for k in 0..n {
-        table[to + k] = rule.cell(source, k);
-    }
 }

@@ -1,14 +1,15 @@
 -- Lists of indices, read one by one.
-use Rattle.std.proofs.Common.{◌≡◌, ℕ, zero, suc, ◌+◌, ◌-◌, ◌*◌, ◌<◌, ◌≤◌, Bool, true, false, List, [], ◌∷◌, length, get_or, take, drop, ℤ, pos, negsuc, ◌+ℤ◌, Some, None, Option, sym, refl, ap, ◌∙◌, subst, ⊎_elim, arith, ltb-true}
+use Rattle.std.proofs.Common.{◌≡◌, ℕ, zero, suc, ◌+◌, ◌-◌, ◌*◌, ◌<◌, ◌≤◌, Bool, true, false, List, [], ◌∷◌, length, get_or, take, drop, ℤ, pos, negsuc, ◌+ℤ◌, Some, None, Option, is_some, Ok, Err, Result, sym, refl, ap, ◌∙◌, subst, ⊎_elim, le_refl, arith, ltb-true}
 use Rattle.element.specs.Steps.{step_count, stepped}
 use Rattle.element.proofs.Stepping.{step_within}
 use Rattle.std.proofs.lemmas.List.FromFn.{length-map-range_with_len, get_or-map-range_with_len}
-use Rattle.std.proofs.lemmas.List.{at_drop_more, at_drop_all, drop-drop}
+use Rattle.std.proofs.lemmas.List.{at_drop_more, drop-drop, take-take, same_lists}
+use Rattle.std.specs.Option.{ok_or}
 use Rattle.std.proofs.lemmas.Bool.{cond-true, cond-false, false≢true, cases_Bool}
 use Rattle.picks.specs.declared.indices.Index.{Index}
 use Rattle.picks.specs.declared.indices.Index.TheVariants.{Cells, Interval}
 use Rattle.element.specs.Cells.{cells}
-use Rattle.picks.specs.Indices.{spanned, between, index_count, indices_of, IndexBelow, IndexAbove, place_of, inside, first_outside, or_else, first_outside2, AllInside}
+use Rattle.picks.specs.Indices.{spanned, between, index_count, indices_of, IndexBelow, IndexAbove, place_of, place_among, inside, first_outside, AllInside}
 use Rattle.element.proofs.Writes.{length_cells, get_or_cells, cells_take}
 
 pub at_cells : (index : Index) (T : List ℤ) (z y : ℤ) (at n k : ℕ) → index ≡ Cells at n → k < index_count index → z ≡ y → y ≡ get_or T (at + k) (pos 0) → z ≡ get_or (indices_of index T) k (pos 0)
@@ -25,34 +26,35 @@ pub length_indices : (index : Index) (T : List ℤ) → IndexBelow index (length
 length_indices (Cells at n) T h = length_cells T at n h
 length_indices (Interval low high) T h = length-map-range_with_len (λ k. low +ℤ pos k) 0 (spanned low high)
 
--- the first index outside, from the k-th on
+-- a list xs of indices, seen in T
+module _ (index : Index) (T xs : List ℤ) (view : indices_of index T ≡ xs) (below : IndexBelow index (length T)) where
+  pub count_listed : length xs ≡ index_count index
+  count_listed = ap length (sym view) ∙ length_indices index T below
+
+  pub at_listed : (k : ℕ) (z : ℤ) → z ≡ get_or (indices_of index T) k (pos 0) → z ≡ get_or xs k (pos 0)
+  at_listed k z e = e ∙ ap (λ (js : List ℤ). get_or js k (pos 0)) view
+
+-- an index that has no place names no element
+pub placed_none : (n : ℕ) (z : ℤ) (o : Option ℕ) → o ≡ place_among n z → is_some o ≡ false → inside n z ≡ false
+placed_none n z o e h =
+    ⊎_elim (λ (t : inside n z ≡ true). absurd (false≢true (sym h ∙ ap is_some (e ∙ cond-true (inside n z) (Some (place_of z)) None t)))) (λ (f : inside n z ≡ false). f) (cases_Bool (inside n z))
+
+-- an index that has a place names that element
+pub placed : {E : Type 0} (n : ℕ) (z : ℤ) (o : Option ℕ) (place : ℕ) (e : E) → o ≡ place_among n z → Ok place ≡ ok_or o e → (inside n z ≡ true) × (place ≡ place_of z)
+placed {E} n z o place e is h =
+    ⊎_elim
+    (λ (t : inside n z ≡ true). let q : ◌≡◌ {A = Result ℕ E} (Ok place) (Ok (place_of z)) = h ∙ ap (λ (x : Option ℕ). ok_or x e) (is ∙ cond-true (inside n z) (Some (place_of z)) None t) in let p : place ≡ place_of z = cc in (t, p))
+    (λ (f : inside n z ≡ false). let q : ◌≡◌ {A = Result ℕ E} (Ok place) (Err e) = h ∙ ap (λ (x : Option ℕ). ok_or x e) (is ∙ cond-false (inside n z) (Some (place_of z)) None f) in let z : ◌≡◌ {A = ℕ} 0 1 = cc in absurd (omega arith))
+    (cases_Bool (inside n z))
+
+-- the k-th index is the first outside
 module _ (b n : ℕ) (js : List ℤ) where
-  pub outside_none : first_outside (b + 0 + 1) n (drop 0 js) ≡ first_outside (b + 1) n js
-  outside_none = ap (λ (k : ℕ). first_outside k n js) (omega arith)
-
-  pub outside_more : (k : ℕ) (j : ℤ) (r : Bool) → k < length js → j ≡ get_or js k (pos 0) → r ≡ inside n j → r ≡ true → first_outside (b + k + 1) n (drop k js) ≡ first_outside (b + 1) n js → first_outside (b + (k + 1) + 1) n (drop (k + 1) js) ≡ first_outside (b + 1) n js
-  outside_more k j r h at is passed e =
-      let t : inside n (get_or js k (pos 0)) ≡ true = sym (ap (inside n) at) ∙ sym is ∙ passed in
-      let m : b + (k + 1) + 1 ≡ b + k + 1 + 1 = omega arith in
-      ap (λ (m : ℕ). first_outside m n (drop (k + 1) js)) m
-      ∙ sym (cond-true (inside n (get_or js k (pos 0))) _ _ t)
-      ∙ sym (at_drop_more (first_outside (b + k + 1) n) js k (pos 0) h)
-      ∙ e
-
   pub outside_here : (k : ℕ) (j : ℤ) (r : Bool) → k < length js → j ≡ get_or js k (pos 0) → r ≡ inside n j → r ≡ false → first_outside (b + k + 1) n (drop k js) ≡ first_outside (b + 1) n js → Some (b + k + 1) ≡ first_outside (b + 1) n js
   outside_here k j r h at is left e =
       let t : inside n (get_or js k (pos 0)) ≡ false = sym (ap (inside n) at) ∙ sym is ∙ left in
       sym (cond-false (inside n (get_or js k (pos 0))) _ _ t) ∙ sym (at_drop_more (first_outside (b + k + 1) n) js k (pos 0) h) ∙ e
 
-  pub outside_all : (k : ℕ) → length js ≤ k → first_outside (b + k + 1) n (drop k js) ≡ first_outside (b + 1) n js → None ≡ first_outside (b + 1) n js
-  outside_all k h e = sym (at_drop_all (first_outside (b + k + 1) n) js k h) ∙ e
-
--- an index that names an element is its place and one more
-pub inside_place : (n : ℕ) (z : ℤ) → inside n z ≡ true → z ≡ pos (suc (place_of z))
-inside_place n (pos zero) e = absurd (false≢true e)
-inside_place n (pos (suc j)) e = ap pos (omega arith)
-inside_place n (negsuc j) e = absurd (false≢true e)
-
+-- an index that names an element lies below their number
 pub inside_bound : (n : ℕ) (z : ℤ) → inside n z ≡ true → place_of z < n
 inside_bound n (pos zero) e = absurd (false≢true e)
 inside_bound n (pos (suc j)) e = omega (arith, ltb-true j n e)
@@ -67,9 +69,6 @@ all_inside b n (j ∷ js) e (suc k) h =
     (λ (t : inside n j ≡ true). all_inside (b + 1) n js (e ∙ cond-true (inside n j) (first_outside (b + 1) n js) (Some b) t) k (omega arith))
     (λ (f : inside n j ≡ false). let z : ◌≡◌ {A = ℕ} 0 1 = cc (cond-false (inside n j) (first_outside (b + 1) n js) (Some b) f) in absurd (omega arith))
     (cases_Bool (inside n j))
-
-pub inside_at : (n : ℕ) (js : List ℤ) (z y : ℤ) (k m : ℕ) → AllInside n js → length js ≡ m → k < m → z ≡ y → y ≡ get_or js k (pos 0) → inside n z ≡ true
-inside_at n js z y k m all l h same is = ap (inside n) (same ∙ is) ∙ all k (omega arith)
 
 -- the integers that are seen beside a table, or in it, stay where the table's cells stay
 module _ {E I : Type 0} (seen : I → List E → List ℤ)
@@ -86,26 +85,20 @@ module _ {E I : Type 0} (seen : I → List E → List ℤ)
       (ap (λ (k : ℕ). take n (drop k S)) (sym j) ∙ ap (take n) (sym (drop-drop (at - start) start S) ∙ ap (drop (at - start)) e ∙ drop-drop (at - start) start T) ∙ ap (λ (k : ℕ). take n (drop k T)) j)
   still_above (Interval low high) T S start h e = refl
 
+  -- where a table is split behind the cells of the indices
+  pub still_front : (index : Index) (T F : List E) (to : ℕ) → IndexBelow index to → F ≡ take to T → indices_of index (seen s F) ≡ indices_of index (seen s T)
+  still_front index T F to h e = still_below index T F to h (ap (take to) e ∙ take-take to to T (le_refl to))
+
+  pub front_count : (index : Index) (T F : List E) (to : ℕ) (js : List ℤ) → js ≡ indices_of index (seen s F) → IndexBelow index to → F ≡ take to T → IndexBelow index (length (seen s T)) → length js ≡ index_count index
+  front_count index T F to js e h f k = ap length (e ∙ still_front index T F to h f) ∙ length_indices index (seen s T) k
+
+  pub front_below : (part : (s : I) (T S : List E) (at n : ℕ) → at + n ≤ length S → at + n ≤ length (seen s T) → at + n ≤ length (seen s S)) (index : Index) (T F : List E) (to : ℕ)
+      → length F ≡ to → IndexBelow index to → IndexBelow index (length (seen s T)) → IndexBelow index (length (seen s F))
+  front_below part (Cells at n) T F to e h k = part s T F at n (omega arith) k
+  front_below part (Interval low high) T F to e h k = tt
+
   pub still_within : (index : Index) (T S : List E) → length S ≡ length T → IndexBelow index (length (seen s T)) → IndexBelow index (length (seen s S))
   still_within index T S e h = let P : ℕ → Type 0 = IndexBelow index in subst P (sym (long s T S e)) h
-
--- none of two lists is outside
-pub neither_rows : (x y : Option ℕ) → None ≡ or_else x y → None ≡ x
-neither_rows None y e = refl
-neither_rows (Some k) y e = e
-
-pub neither_columns : (x y : Option ℕ) → None ≡ or_else x y → None ≡ y
-neither_columns None y e = e
-neither_columns (Some k) y e = let z : ◌≡◌ {A = ℕ} 0 1 = cc in absurd (omega arith)
-
-pub below_more : (index : Index) (end more : ℕ) → IndexBelow index end → IndexBelow index (end + more)
-below_more (Cells at n) end more h = omega arith
-below_more (Interval low high) end more h = tt
-
-pub outside_columns : (r s : ℕ) (is js : List ℤ) (m n : ℕ) (o : Option ℕ) → None ≡ first_outside 1 r is → m ≡ n → length is ≡ n → o ≡ first_outside (m + 1) s js → o ≡ first_outside2 r s is js
-outside_columns r s is js m n o e h l is' =
-    let k : m ≡ length is = omega arith in
-    is' ∙ ap (λ (i : ℕ). first_outside (i + 1) s js) k ∙ ap (λ (x : Option ℕ). or_else x (first_outside (length is + 1) s js)) e
 
 -- every b-th integer of an interval
 module _ (low high : ℤ) (b : ℕ) where
@@ -121,3 +114,15 @@ module _ (low high : ℤ) (b : ℕ) where
       let j : k < step_count (length (between low high)) b = rw length_between l in
       get_or-map-range_with_len (λ k. get_or (between low high) (k * b) (pos 0)) 0 (step_count (length (between low high)) b) k k d j (omega arith)
       ∙ get_or-map-range_with_len (λ k. low +ℤ pos k) 0 (spanned low high) (k * b) (k * b) (pos 0) i (omega arith)
+
+pub step_one : (n : ℕ) → step_count n 1 ≡ n
+step_one n = omega arith
+
+pub stepped_one : (low high : ℤ) → stepped (pos 0) 1 (between low high) ≡ between low high
+stepped_one low high =
+    same_lists _ _ (length_step_between low high 1 ∙ step_one (spanned low high) ∙ sym (length_between low high 1))
+    (λ k d h.
+    let i : k < step_count (spanned low high) 1 = omega (arith, length_step_between low high 1) in
+    let j : k < spanned low high = omega (arith, step_one (spanned low high)) in
+    let e : k * 1 ≡ k = omega arith in
+    get_or_step_between low high 1 k d (omega arith) i ∙ ap (λ (m : ℕ). low +ℤ pos m) e ∙ sym (get_or-map-range_with_len (λ k. low +ℤ pos k) 0 (spanned low high) k k d j (omega arith)))

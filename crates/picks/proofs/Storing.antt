@@ -1,14 +1,23 @@
 -- Loops that store elements by indices.
-use Rattle.std.proofs.Common.{◌≡◌, ℕ, zero, suc, ◌+◌, ◌-◌, ◌*◌, ◌<◌, ◌≤◌, true, false, cond, List, [], ◌∷◌, ◌++◌, length, get_or, take, drop, set, replicate, ℤ, pos, Some, None, Option, sym, refl, ap, ◌∙◌, le_refl, arith}
+use Rattle.std.proofs.Common.{◌≡◌, ℕ, zero, suc, ◌+◌, ◌-◌, ◌*◌, ◌<◌, ◌≤◌, true, List, [], ◌∷◌, ◌++◌, length, get_or, take, drop, set, ℤ, pos, Some, None, Option, Ok, sym, refl, ap, ◌∙◌, le_refl, arith}
 use lib.Seq.{paste}
 use Rattle.std.proofs.lemmas.List.{length-set, length-replicate, get_or-replicate, get_or_default, get_or-drop, take_all, length-append, length-take-le, set-append_left, set-append_right, take-append-drop, drop-drop, append_assoc}
-use Rattle.std.proofs.lemmas.Bool.{cond_both, cond-true}
-use Rattle.picks.specs.declared.operands.Values.{Values}
+use Rattle.std.proofs.lemmas.Bool.{cond-true}
+use Rattle.element.specs.declared.operands.Operand.{Operand}
+use Rattle.element.specs.declared.operands.Operand.TheVariants.{Run, Scalar}
+use Rattle.element.specs.Operands.{start_of, place_of as cell_of, along}
 use Rattle.element.specs.Cells.{put, cells}
-use Rattle.picks.specs.Indices.{place_of, inside, first_outside, or_else, first_outside2}
-use Rattle.picks.specs.Stores.{stored, value_place, values_of}
+use Rattle.picks.specs.Indices.{place_of, place_among, inside, first_outside, or_else, first_outside2}
+use Rattle.picks.specs.Stores.{stored}
+use Rattle.std.specs.Option.{ok_or}
+use Rattle.picks.proofs.Indexing.{placed, inside_bound}
 use Rattle.element.proofs.Lines.{row_below}
 use Rattle.element.proofs.Writes.{length_cells, get_or_cells, drop_beyond}
+
+-- no value lies before the first
+start_first : (v : Operand) (k : ℕ) → start_of v ≤ cell_of v k
+start_first (Run at) k = omega arith
+start_first (Scalar at) k = le_refl at
 
 module _ {X : Type 0} where
   -- a cell written within a run that was written
@@ -59,29 +68,27 @@ module _ {X : Type 0} where
   stored_more xs (j ∷ js) (y ∷ ys) zero d h l = refl
   stored_more xs (j ∷ js) (y ∷ ys) (suc k) d h l = stored_more (set xs (place_of j) y) js ys k d (omega arith) (omega arith)
 
-  pub length_values : (null : X) (T : List X) (v : Values) (n : ℕ) → v.at + n ≤ length T → length (values_of null T v n) ≡ n
-  length_values null T v n h = cond_both v.spread _ _ (λ (xs : List X). length xs ≡ n) (λ _. length-replicate n _) (λ _. length_cells T v.at n h)
+  pub length_along : (null : X) (T : List X) (v : Operand) (n : ℕ) → start_of v + n ≤ length T → length (along null T v n) ≡ n
+  length_along null T (Run at) n h = length_cells T at n h
+  length_along null T (Scalar at) n h = length-replicate n _
 
-  pub get_or_values : (null : X) (T : List X) (v : Values) (n k : ℕ) (d : X) → k < n → v.at + n ≤ length T → get_or (values_of null T v n) k d ≡ get_or T (value_place v k) d
-  get_or_values null T v n k d l h =
-      elim v.spread as (λ b. get_or (cond b (replicate n (get_or T v.at null)) (cells T v.at n)) k d ≡ get_or T (cond b v.at (v.at + k)) d) [
-        | true ↦ get_or-replicate n k _ d l ∙ get_or_default T v.at null d (omega arith)
-        | false ↦ get_or_cells T v.at n k d l
-      ]
+  pub get_or_along : (null : X) (T : List X) (v : Operand) (n k : ℕ) (d : X) → k < n → start_of v + n ≤ length T → get_or (along null T v n) k d ≡ get_or T (cell_of v k) d
+  get_or_along null T (Run at) n k d l h = get_or_cells T at n k d l
+  get_or_along null T (Scalar at) n k d l h = get_or-replicate n k _ d l ∙ get_or_default T at null d (omega arith)
 
   -- a turn that stores the k-th value
-  pub store_more : (null : X) (T S : List X) (to have n : ℕ) (js : List ℤ) (v : Values) (k place : ℕ) (x : X)
-      → length js ≡ n → k < n → to + have ≤ v.at → v.at + n ≤ length T → place ≡ place_of (get_or js k (pos 0)) → place < have
-      → S ≡ put T to (stored (cells T to have) (take k js) (take k (values_of null T v n)))
-      → x ≡ get_or S (value_place v k) x
-      → set S (to + place) x ≡ put T to (stored (cells T to have) (take (k + 1) js) (take (k + 1) (values_of null T v n)))
+  pub store_more : (null : X) (T S : List X) (to have n : ℕ) (js : List ℤ) (v : Operand) (k place : ℕ) (x : X)
+      → length js ≡ n → k < n → to + have ≤ start_of v → start_of v + n ≤ length T → place ≡ place_of (get_or js k (pos 0)) → place < have
+      → S ≡ put T to (stored (cells T to have) (take k js) (take k (along null T v n)))
+      → x ≡ get_or S (cell_of v k) x
+      → set S (to + place) x ≡ put T to (stored (cells T to have) (take (k + 1) js) (take (k + 1) (along null T v n)))
   store_more null T S to have n js v k place x l h above within at inside s read =
-      let vs = values_of null T v n in
+      let vs = along null T v n in
       let R = stored (cells T to have) (take k js) (take k vs) in
-      let m : length vs ≡ n = length_values null T v n within in
+      let m : length vs ≡ n = length_along null T v n within in
       let r : length R ≡ have = length_stored (cells T to have) (take k js) (take k vs) ∙ length_cells T to have (omega arith) in
-      let p : to + have ≤ value_place v k = cond_both v.spread _ _ (λ (q : ℕ). to + have ≤ q) (λ _. above) (λ _. omega arith) in
-      let is : x ≡ get_or vs k x = read ∙ ap (λ (xs : List X). get_or xs (value_place v k) x) s ∙ read_above T R to have (value_place v k) x r (omega arith) p ∙ sym (get_or_values null T v n k x h within) in
+      let p : to + have ≤ cell_of v k = omega (arith, start_first v k) in
+      let is : x ≡ get_or vs k x = read ∙ ap (λ (xs : List X). get_or xs (cell_of v k) x) s ∙ read_above T R to have (cell_of v k) x r (omega arith) p ∙ sym (get_or_along null T v n k x h within) in
       let e : suc k ≡ k + 1 = omega arith in
       ap (λ (xs : List X). set xs (to + place) x) s
       ∙ set_put T R to place x (omega arith) (omega arith)
@@ -103,6 +110,12 @@ module _ {X : Type 0} where
 -- a row and a column that a matrix has
 pub cell_below : (row column r s : ℕ) → row < r → column < s → row * s + column < r * s
 cell_below row column r s h l = omega (arith, row_below row r s (column + 1) h (omega arith))
+
+pub cell_placed : {E : Type 0} (r s row column : ℕ) (i j : ℤ) (o p : Option ℕ) (e f : E) → o ≡ place_among r i → Ok row ≡ ok_or o e → p ≡ place_among s j → Ok column ≡ ok_or p f → row * s + column < r * s
+cell_placed r s row column i j o p e f is h are k =
+    let here = placed r i o row e is h in
+    let there = placed s j p column f are k in
+    cell_below row column r s (omega (arith, here.1, inside_bound r i here.0)) (omega (arith, there.1, inside_bound s j there.0))
 
 pub both_inside : (r s : ℕ) (i j : ℤ) → inside r i ≡ true → inside s j ≡ true → None ≡ first_outside2 r s (i ∷ []) (j ∷ [])
 both_inside r s i j h l = sym (cond-true (inside s j) None (Some 2) l) ∙ ap (λ (x : Option ℕ). or_else x (first_outside 2 s (j ∷ []))) (sym (cond-true (inside r i) None (Some 1) h))

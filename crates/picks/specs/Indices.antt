@@ -48,6 +48,10 @@ inside n (pos zero) = false
 inside n (pos (suc j)) = nat_lt j n
 inside n (negsuc j) = false
 
+-- the place from 0 that an index names, where it names one of n elements
+abbrev pub place_among : ℕ → ℤ → Option ℕ
+place_among n j = cond (inside n j) (Some (place_of j)) None
+
 -- the place in the list, counted from k, of the first index that names none of n elements
 abbrev pub first_outside : ℕ → ℕ → List ℤ → Option ℕ
 first_outside k n [] = None

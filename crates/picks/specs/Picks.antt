@@ -12,6 +12,11 @@ picked null xs js = map (λ j. slice_index_or xs (place_of j) null) js
 abbrev pub crossed : {X : Type 0} → X → ℕ → List X → List ℤ → List ℤ → List X
 crossed null s xs is js = joined (map (λ i. picked null (cells xs (place_of i * s) s) js) is)
 
+-- what is answered: nothing, or the place of an index that is outside
+abbrev pub told : Option ℕ → Result (Unit {0}) Outside
+told None = Ok tt
+told (Some k) = Err (record { place = k })
+
 -- after: the table is `new`, or an index is outside, whose place is told, and the table is as it was
 abbrev pub Guarded : {X : Type 0} → Option ℕ → List X → List X → Result (Unit {0}) Outside → List X → Type 0
 Guarded None table new r table' = (r ≡ Ok tt) × (table' ≡ new)

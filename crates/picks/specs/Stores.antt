@@ -1,6 +1,5 @@
 -- Elements stored at indices, left to right, so that later ones win.
-use Rattle.std.specs.Prelude.{ℕ, ◌+◌, cond, List, [], ◌∷◌, replicate, ℤ, Result, slice_index_or, slice_set}
-use Rattle.picks.specs.declared.operands.Values.{Values}
+use Rattle.std.specs.Prelude.{ℕ, List, [], ◌∷◌, ℤ, Result, slice_set}
 use Rattle.element.specs.Cells.{put, cells}
 use Rattle.picks.specs.declared.indices.Outside.{Outside}
 use Rattle.picks.specs.Indices.{place_of, first_outside}
@@ -11,14 +10,6 @@ abbrev pub stored : {X : Type 0} → List X → List ℤ → List X → List X
 stored xs [] ys = xs
 stored xs (j ∷ js) [] = xs
 stored xs (j ∷ js) (y ∷ ys) = stored (slice_set xs (place_of j) y) js ys
-
--- the cell of the k-th value
-abbrev pub value_place : Values → ℕ → ℕ
-value_place v k = cond v.spread v.at (v.at + k)
-
--- n values: the cells from `at` on, or n times the one there
-abbrev pub values_of : {X : Type 0} → X → List X → Values → ℕ → List X
-values_of null table v n = cond v.spread (replicate n (slice_index_or table v.at null)) (cells table v.at n)
 
 -- what a store leaves: the n cells from `to` on have the values at the places that the indices js name
 abbrev pub StoreLeaves : {X : Type 0} → List X → ℕ → ℕ → List ℤ → List X → Result (Unit {0}) Outside → List X → Type 0

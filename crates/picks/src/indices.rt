@@ -1,6 +1,6 @@
 //! Lists of indices: integer cells, or the bounds of an interval.
-ghost use Rattle.std.specs.Prelude.{◌≡◌, ◌<◌, true, pos, ◌+ℤ◌};
-ghost use Rattle.picks.specs.Indices.{index_count, spanned, place_of, inside};
+ghost use Rattle.std.specs.Prelude.{◌≡◌, ◌<◌, pos, ◌+ℤ◌};
+ghost use Rattle.picks.specs.Indices.{index_count, spanned, place_among};
 
 /// A list of indices into a value; they count from 1.
 #[derive(Clone, Copy)]
@@ -42,20 +42,15 @@ pub fn nth_between(low: i32, high: i32, k: usize) -> i32
     (low as i64 + k as i64) as i32
 }
 
-/// Whether an index names one of n elements.
-pub fn names_element(index: i32, n: usize) -> bool
-    ensures { result ≡ inside n index }
+/// The place from 0 of the element that an index names, if it names one of n.
+pub fn place_among(index: i32, n: usize) -> Option<usize>
+    ensures { result ≡ place_among n index }
 {
-    0 < index && index as usize <= n
-}
-
-/// The place from 0 of the element that an index names.
-pub fn place_of(index: i32, n: usize) -> usize
-    requires { inside n index ≡ true }
-    ensures value { result ≡ place_of index }
-    ensures bound { result < n }
-{
-    index as usize - 1
+    if 0 < index && index as usize <= n {
+        Some(index as usize - 1)
+    } else {
+        None
+    }
 }
 
 /// An index that names no element of a value: its place among the indices, from 1.

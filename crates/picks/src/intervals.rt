@@ -12,10 +12,7 @@ pub fn write_interval(table: &mut [i32], low: i32, high: i32, to: usize)
     requires { to + spanned low high ≤ length table.old }
     ensures { table.new ≡ put table.old to (between low high) }
 {
-    let count = span(low, high);
-    for k in 0..count {
-        table[to + k] = nth_between(low, high, k);
-    }
+    step_interval(table, low, high, 1, to);
 }
 
 /// Writes every `step`-th of the integers from `low` to `high`, from the first on.
@@ -25,8 +22,8 @@ pub fn step_interval(table: &mut [i32], low: i32, high: i32, step: usize, to: us
     requires within { to + step_count (spanned low high) step ≤ length table.old }
     ensures { table.new ≡ put table.old to (stepped (pos 0) step (between low high)) }
 {
-    let count = step_count(span(low, high), step);
-    for k in 0..count {
-        table[to + k] = nth_between(low, high, k * step);
+    let target = &mut table[to..to + step_count(span(low, high), step)];
+    for (k, cell) in target.iter_mut().enumerate() {
+        *cell = nth_between(low, high, k * step);
     }
 }

@@ -3,13 +3,12 @@
 
 pub mod indices;
 pub mod intervals;
-pub mod operands;
+pub mod listed;
 pub mod picks;
 pub mod places;
 pub mod stores;
 
 pub use indices::{Index, Outside};
-pub use operands::Values;
 pub use picks::{pick, pick_matrix};
 pub use places::{Beside, Integers, Within};
 pub use stores::{store, store_matrix};

@@ -1,33 +1,25 @@
 //! Elements picked by indices: of a vector, and of a matrix by rows and columns.
 ghost use Rattle.std.specs.Prelude.{◌≡◌, ℕ, ◌+◌, ◌*◌, ◌^◌, ◌<◌, ◌≤◌, length};
-ghost use Rattle.element.specs.Cells.{put, cells};
 ghost use Rattle.picks.specs.Indices.{index_count, indices_of, IndexBelow, AllInside};
 ghost use Rattle.picks.specs.Picks.{picked, crossed, PickLeaves, CrossLeaves};
 
 use crate::indices::{Index, Outside};
-use crate::places::{Integers, first_outside, first_outside_matrix, place_at};
+use crate::listed::Listed;
+use crate::places::Integers;
 use element::Element;
 
-/// Writes the elements that the indices name, where all of them name one of the `have` cells from `from` on.
+/// Writes the elements that the indices name, where all of them name one of the cells.
 fn pick_inside<E: Element, I: Integers<E>>(
-    table: &mut [E],
-    from: usize,
-    have: usize,
-    integers: &I,
-    index: Index,
-    to: usize,
+    cells: &[E],
+    list: &Listed<'_, '_, E, I>,
+    target: &mut [E],
 )
-    requires below { from + have ≤ to }
-    requires indices { IndexBelow index to }
-    requires seen { IndexBelow index (length (I.Integers.seen integers.now table.old)) }
-    requires inside { AllInside have (indices_of index (I.Integers.seen integers.now table.old)) }
-    requires within { to + index_count index ≤ length table.old }
-    ensures { table.new ≡ put table.old to (picked E.Element.null (cells table.old from have) (indices_of index (I.Integers.seen integers.now table.old))) }
+    requires inside { AllInside (length cells.now) list.now }
+    requires alike { length target.old ≡ length list.now }
+    ensures { target.new ≡ picked E.Element.NULL cells.now list.now }
 {
-    let count = index.count();
-    for k in 0..count {
-        let place = place_at(index, integers, table, have, k);
-        table[to + k] = table[from + place];
+    for (k, cell) in target.iter_mut().enumerate() {
+        *cell = cells[list.place(k, cells.len())];
     }
 }
 
@@ -44,43 +36,37 @@ pub fn pick<E: Element, I: Integers<E>>(
     requires indices { IndexBelow index to }
     requires seen { IndexBelow index (length (I.Integers.seen integers.now table.old)) }
     requires within { to + index_count index ≤ length table.old }
-    ensures { PickLeaves E.Element.null table.old from have (indices_of index (I.Integers.seen integers.now table.old)) to result table.new }
+    ensures { PickLeaves E.Element.NULL table.old from have (indices_of index (I.Integers.seen integers.now table.old)) to result table.new }
 {
-    match first_outside(index, integers, table, have, 0) {
-        Some(place) => Err(Outside { place }),
-        None => {
-            pick_inside(table, from, have, integers, index, to);
-            Ok(())
-        }
-    }
+    let (below, rest) = table.split_at_mut(to);
+    let source = &below[..];
+    let list = Listed::new(index, integers, source);
+    list.check(have, 0)?;
+    pick_inside(&source[from..from + have], &list, &mut rest[..list.count()]);
+    Ok(())
 }
 
-/// Writes the elements of an r × s matrix from `from` on where the rows and columns cross, where all indices name one.
+/// Writes the elements of an r × s matrix where the rows and columns cross, where all indices name one.
 fn cross_inside<E: Element, I: Integers<E>>(
-    table: &mut [E],
-    from: usize,
+    cells: &[E],
     r: usize,
     s: usize,
-    integers: &I,
-    rows: Index,
-    columns: Index,
-    to: usize,
+    rows: &Listed<'_, '_, E, I>,
+    columns: &Listed<'_, '_, E, I>,
+    target: &mut [E],
 )
-    requires below { from + r * s ≤ to }
-    requires rows_below { IndexBelow rows to }
-    requires columns_below { IndexBelow columns to }
-    requires rows_seen { IndexBelow rows (length (I.Integers.seen integers.now table.old)) }
-    requires columns_seen { IndexBelow columns (length (I.Integers.seen integers.now table.old)) }
-    requires rows_inside { AllInside r (indices_of rows (I.Integers.seen integers.now table.old)) }
-    requires columns_inside { AllInside s (indices_of columns (I.Integers.seen integers.now table.old)) }
-    requires within { to + index_count rows * index_count columns ≤ length table.old }
-    ensures { table.new ≡ put table.old to (crossed E.Element.null s (cells table.old from (r * s)) (indices_of rows (I.Integers.seen integers.now table.old)) (indices_of columns (I.Integers.seen integers.now table.old))) }
+    requires matrix { length cells.now ≡ r * s }
+    requires rows_inside { AllInside r rows.now }
+    requires columns_inside { AllInside s columns.now }
+    requires alike { length target.old ≡ length rows.now * length columns.now }
+    ensures { target.new ≡ crossed E.Element.NULL s cells.now rows.now columns.now }
 {
-    let height = rows.count();
     let width = columns.count();
-    for k in 0..height {
-        let row = place_at(rows, integers, table, r, k);
-        pick_inside(table, from + row * s, s, integers, columns, to + k * width);
+    // by the rows' numbers: where no column is named, there is nothing to cut into chunks
+    for k in 0..rows.count() {
+        let row = rows.place(k, r);
+        let line = &mut target[k * width..(k + 1) * width];
+        pick_inside(&cells[row * s..row * s + s], columns, line);
     }
 }
 
@@ -102,13 +88,18 @@ pub fn pick_matrix<E: Element, I: Integers<E>>(
     requires columns_seen { IndexBelow columns (length (I.Integers.seen integers.now table.old)) }
     requires few { index_count rows + index_count columns < 2 ^ 64 }
     requires within { to + index_count rows * index_count columns ≤ length table.old }
-    ensures { CrossLeaves E.Element.null table.old from r s (indices_of rows (I.Integers.seen integers.now table.old)) (indices_of columns (I.Integers.seen integers.now table.old)) to result table.new }
+    ensures { CrossLeaves E.Element.NULL table.old from r s (indices_of rows (I.Integers.seen integers.now table.old)) (indices_of columns (I.Integers.seen integers.now table.old)) to result table.new }
 {
-    match first_outside_matrix(rows, columns, integers, table, r, s) {
-        Some(place) => Err(Outside { place }),
-        None => {
-            cross_inside(table, from, r, s, integers, rows, columns, to);
-            Ok(())
-        }
-    }
+    let (below, rest) = table.split_at_mut(to);
+    let source = &below[..];
+    let rows = Listed::new(rows, integers, source);
+    let columns = Listed::new(columns, integers, source);
+    let height = rows.count();
+    let width = columns.count();
+    rows.check(r, 0)?;
+    columns.check(s, height)?;
+    let cells = &source[from..from + r * s];
+    let target = &mut rest[..height * width];
+    cross_inside(cells, r, s, &rows, &columns, target);
+    Ok(())
 }

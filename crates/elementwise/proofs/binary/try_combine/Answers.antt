@@ -1,19 +1,10 @@
-use Rattle.std.proofs.Common.{take, refl, arith}
-use Rattle.elementwise.proofs.Along.{place_part, along_two}
-use Rattle.elementwise.proofs.Collects.{wrote_as}
+use Rattle.std.proofs.Common.{length}
+use Rattle.elementwise.proofs.Along.{along_two}
+use Rattle.elementwise.proofs.Collects.{made_as}
 use Rattle.elementwise.proofs.binary.try_combine.Goals as goal
-
-pub write-requires : goal.write-requires
-write-requires g c =
-    let a = c.args in
-    record {
-      within = c.requires.within;
-      reads = λ k h. (place_part a.table.now a.a a.to a.n k (omega arith) c.requires.left h, place_part a.table.now a.b a.to a.n k (omega arith) c.requires.right h);
-    }
 
 pub returns : goal.returns
 returns g c =
     let a = c.args in
-    wrote_as a.table.now a.to a.n c.write.result c.write.new.table
-    (along_two g.E.Element.null a.table.now (take a.to a.table.now) a.to a.n (omega arith) refl (g.F.Operator.gives a.op) a.a a.b c.requires.left c.requires.right)
-    c.write.ensures
+    made_as c.try_make.result c.try_make.new.target
+    (along_two g.S.Element.NULL a.source.now (g.F.Operator.gives a.op) a.a a.b (length a.target.now) c.requires.left c.requires.right) c.try_make.ensures

@@ -1,9 +1,7 @@
-use Rattle.std.proofs.Common.{◌≡◌, length, take}
+use Rattle.std.proofs.Common.{◌≡◌, length}
 use lib.Seq.{paste}
 use Rattle.element.specs.Cells.{tabulate}
 use Rattle.elementwise.proofs.rules.make.Given as goal
 
 abbrev pub invariant-loop-k : goal.invariant-loop-k
-invariant-loop-k g l =
-    (length l.table ≡ length l.initial.table)
-    × (l.table ≡ paste l.initial.table l.to (tabulate l.n (g.R.Rule.gives l.rule (take l.to l.initial.table))) l.k)
+invariant-loop-k g l = l.target ≡ paste l.initial.target 0 (tabulate (length l.initial.target) (g.R.Rule.gives l.rule l.source)) l.k

@@ -1,19 +1,9 @@
-use Rattle.std.proofs.Common.{true, false, take}
-use Rattle.elementwise.proofs.Fitting.{settled_reads}
+use Rattle.std.proofs.Common.{length}
+use Rattle.elementwise.proofs.Fitting.{reads_as}
 use Rattle.elementwise.proofs.sure.write_values.Goals as goal
 
-pub make-requires-then-b : goal.make-requires-then-b
-make-requires-then-b g c =
-    let a = c.args in
-    record {
-      within = c.requires.within;
-      reads = settled_reads (g.F.Sure.value a.op) a.a a.b false true c.if-a.false c.if-b.true (take a.to a.table.now) a.n c.requires.reads;
-    }
+pub make-requires : goal.make-requires
+make-requires g c = record { reads = reads_as (g.F.Sure.value c.args.op) c.args.source.now (length c.args.target.now) c.in-Run-Run.is-0 c.in-Run-Run.is-1 c.requires.reads }
 
-pub make-requires-else-b : goal.make-requires-else-b
-make-requires-else-b g c =
-    let a = c.args in
-    record {
-      within = c.requires.within;
-      reads = settled_reads (g.F.Sure.value a.op) a.a a.b false false c.if-a.false c.if-b.false (take a.to a.table.now) a.n c.requires.reads;
-    }
+pub make-requires-in-Run-Scalar : goal.make-requires-in-Run-Scalar
+make-requires-in-Run-Scalar g c = record { reads = reads_as (g.F.Sure.value c.args.op) c.args.source.now (length c.args.target.now) c.in-Run-Scalar.is-0 c.in-Run-Scalar.is-1 c.requires.reads }

@@ -1,23 +1,17 @@
-use Rattle.std.proofs.Common.{to_z-of_z, rules}
-use Rattle.std.proofs.lemmas.List.FromFn.{length-map-range_with_len, get_or-map-range_with_len}
-use Rattle.std.proofs.lemmas.List.Edits.{paste_none}
-use Rattle.element.proofs.Writes.{write_more}
+use Rattle.std.proofs.Common.{◌∙◌, ap, to_z-of_z, arith}
+use Rattle.element.specs.Cells.{put}
+use Rattle.picks.specs.Indices.{spanned}
+use Rattle.picks.proofs.Indexing.{step_one, stepped_one}
 use Rattle.picks.proofs.intervals.write_interval.Goals as goal
 
-pub loop-k-init : goal.loop-k-init
-loop-k-init c = search (rules, paste_none)
-
-pub loop-k-preserved : goal.loop-k-preserved
-loop-k-preserved c =
+pub step_interval-requires-clause-within : goal.step_interval-requires-clause-within
+step_interval-requires-clause-within c =
     let low = c.ranges.low in
     let high = c.ranges.high in
-    let count = simp to_z-of_z at c.span-count.ensures in
-    let value = simp to_z-of_z at c.nth_between.ensures in
-    search (rules, write_more, length-map-range_with_len, get_or-map-range_with_len)
+    simp to_z-of_z (omega (arith, step_one (spanned c.args.low c.args.high)))
 
 pub returns : goal.returns
 returns c =
     let low = c.ranges.low in
     let high = c.ranges.high in
-    let count = simp to_z-of_z at c.span-count.ensures in
-    search (rules, length-map-range_with_len)
+    (simp to_z-of_z at c.step_interval.ensures) ∙ ap (put c.args.table.now c.args.to) (stepped_one c.args.low c.args.high)

@@ -1,7 +1,7 @@
 use Rattle.std.proofs.Common.{suc, ◌+◌, ◌*◌, ◌%◌, ◌≤◌, arith}
 use native.Mathlib.Nat.{mod-le}
 use Rattle.std.proofs.lemmas.Nat.{mod_below}
-use Rattle.elementwise.proofs.Grids.{row_below}
+use Rattle.element.proofs.Lines.{row_below}
 use Rattle.elementwise.proofs.products.MatricesRuleI32ResultI32ArithmeticFault.cell.Goals as goal
 
 pub overflow_add-column : goal.overflow_add-column
