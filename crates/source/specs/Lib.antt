@@ -1,8 +1,11 @@
+pub mod BooleanWords
 pub mod Booleans
 pub mod Bounds
 pub mod Characters
+pub mod IntegerWords
 pub mod Integers
 pub mod Letters
+pub mod LineBounds
 pub mod Lines
 pub mod Making
 pub mod Numerals

@@ -2,6 +2,7 @@
 ghost use Rattle.std.specs.Prelude.{◌≡◌, Some};
 ghost use Rattle.source.specs.Refusals.{refusal_number, refusal_text};
 
+use std::error::Error;
 use std::fmt;
 
 /// Why bytes or readings are refused as a source.
@@ -38,3 +39,5 @@ impl fmt::Display for SourceRefusal {
         f.write_str(self.text())
     }
 }
+
+impl Error for SourceRefusal {}
