@@ -1,4 +1,4 @@
--- The states of the stream by number, in which state a read leaves it, and the value that is seen then.
+-- The states of the stream by number, in which state a read leaves it, and a misread in words.
 use Rattle.std.specs.Prelude.{ℕ, List, Result, Ok, Err, codes}
 use Rattle.source.specs.declared.state.Misread.{Misread}
 use Rattle.source.specs.declared.state.Misread.TheVariants.{BadWord as Unread, Ended as Missing}
@@ -14,11 +14,6 @@ abbrev pub state_of : {T : Type 0} → Result T Misread → StreamState
 state_of (Ok v) = Good
 state_of (Err Unread) = BadWord
 state_of (Err Missing) = Ended
-
--- the null of its kind stands for a value that is not read
-abbrev pub value_or : {T : Type 0} → T → Result T Misread → T
-value_or null (Ok v) = v
-value_or null (Err m) = null
 
 abbrev pub misread_text : Misread → List ℕ
 misread_text Unread = codes "the word writes no such value"
