@@ -2,7 +2,7 @@
 ghost use Rattle.std.specs.Prelude.{◌≡◌, ℕ, List, fold, true, false, Some, MatchOption, Result};
 ghost use Rattle.source.specs.Taking.{Took};
 ghost use Rattle.source.specs.Waiting.{first, behind, Stays};
-ghost use Rattle.source.specs.Words.{blank, after_blanks, run, after_run, word, rest};
+ghost use Rattle.source.specs.Words.{blank, after_blanks, run, after_run, word, rest, Parted};
 ghost use Rattle.source.specs.declared.state.Misread.{Misread as Misreads};
 
 use crate::source::Source;
@@ -91,6 +91,7 @@ fn scan_run<S: Source, C: Scanner>(s: &mut S, taken: &mut u32) -> C
 pub fn read_word<S: Source, C: Scanner>(s: &mut S, taken: &mut u32) -> Result<C::Value, Misread>
     ensures told { result ≡ C.told (word (S.waiting s.old)) }
     ensures waits { S.waiting s.new ≡ rest (S.waiting s.old) }
+    ensures parts { Parted (S.waiting s.old) (S.waiting s.new) }
     ensures took { Took (S.waiting s.old) (S.waiting s.new) taken.old taken.new }
 {
     skip_blanks(s, taken);

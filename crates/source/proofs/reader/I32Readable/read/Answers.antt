@@ -1,5 +1,0 @@
-use Rattle.source.proofs.Cuts.{parts}
-use Rattle.source.proofs.reader.I32Readable.read.Goals as goal
-
-pub returns-clause-parts : goal.returns-clause-parts
-returns-clause-parts g c = parts _ _ c.read_word.ensures.waits
