@@ -88,6 +88,7 @@ fn scan_run<S: Source, C: Scanner>(s: &mut S, taken: &mut u32) -> C
 }
 
 /// Takes blanks and the next word, tells what the word writes, and leaves the byte after it.
+#[tactic(auto, using(crate::proofs::Cuts::parts))]
 pub fn read_word<S: Source, C: Scanner>(s: &mut S, taken: &mut u32) -> Result<C::Value, Misread>
     ensures told { result ≡ C.told (word (S.waiting s.old)) }
     ensures waits { S.waiting s.new ≡ rest (S.waiting s.old) }
