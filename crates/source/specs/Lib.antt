@@ -16,4 +16,5 @@ pub mod States
 pub mod Taking
 pub mod Texts
 pub mod Waiting
+pub mod Wanted
 pub mod Words

@@ -8,8 +8,3 @@ first (b ∷ bs) = Some b
 abbrev pub behind : List ℕ → List ℕ
 behind [] = []
 behind (b ∷ bs) = bs
-
--- nothing waits, or this holds of the first byte
-abbrev pub Stays : (ℕ → Type 0) → List ℕ → Type 0
-Stays P [] = Unit
-Stays P (b ∷ bs) = P b

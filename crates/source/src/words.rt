@@ -1,7 +1,7 @@
 //! Blanks and words at the front of a source.
-ghost use Rattle.std.specs.Prelude.{◌≡◌, ℕ, List, fold, true, false, Some, MatchOption, Result};
+ghost use Rattle.std.specs.Prelude.{◌≡◌, ℕ, List, fold, Result};
 ghost use Rattle.source.specs.Taking.{Took};
-ghost use Rattle.source.specs.Waiting.{first, behind, Stays};
+ghost use Rattle.source.specs.Wanted.{NextIf};
 ghost use Rattle.source.specs.Words.{blank, after_blanks, run, after_run, word, rest, Parted};
 ghost use Rattle.source.specs.declared.state.Misread.{Misread as Misreads};
 
@@ -55,7 +55,7 @@ pub fn next_if<S: Source, F: FnOnce(u8) -> bool>(
     wanted: F,
 ) -> Option<u8>
     requires { F.IsAlwaysCallable wanted }
-    ensures value { MatchOption result ((S.waiting s.new ≡ S.waiting s.old) × Stays (λ b. F.post wanted b false) (S.waiting s.old)) (λ b. (first (S.waiting s.old) ≡ Some b) × F.post wanted b true × (S.waiting s.new ≡ behind (S.waiting s.old))) }
+    ensures next { NextIf (F.post wanted) (S.waiting s.old) result (S.waiting s.new) }
     ensures took { Took (S.waiting s.old) (S.waiting s.new) taken.old taken.new }
 {
     let next = s.peek().filter(|byte| wanted(*byte));

@@ -4,7 +4,7 @@ use Rattle.source.proofs.words.skip_blanks.Goals as goal
 
 pub loop-preserved : goal.loop-preserved
 loop-preserved g c =
-    let one = c.in-Some.ensures.value in
+    let one = c.in-Some.ensures.next in
     skips_more _ _ _ _ _ _ _ one.0 one.2 c.next_if.ensures.took c.loop.invariant (search rules)
 
 pub returns-clause-took : goal.returns-clause-took
