@@ -9,7 +9,7 @@ use std::fmt;
 #[derive(Clone, Copy, PartialEq, Eq, Debug)]
 pub enum SourceRefusal {
     /// There are more than a source may hold.
-    TooLong,
+    TooLong = 12,
 }
 
 impl SourceRefusal {
@@ -17,9 +17,7 @@ impl SourceRefusal {
     pub fn number(self) -> u8
         ensures { result ≡ refusal_number self }
     {
-        match self {
-            SourceRefusal::TooLong => 12,
-        }
+        self as u8
     }
 
     /// The refusal in words.

@@ -31,11 +31,11 @@ impl Error for Misread {}
 #[derive(Clone, Copy, PartialEq, Eq, Debug)]
 pub enum StreamState {
     /// A value was read.
-    Good,
+    Good = 0,
     /// There was a word, and it does not write a value of the kind that was asked for.
-    BadWord,
+    BadWord = 1,
     /// There was no word before the end.
-    Ended,
+    Ended = 2,
 }
 
 impl StreamState {
@@ -43,11 +43,7 @@ impl StreamState {
     pub fn number(self) -> u8
         ensures { result ≡ state_number self }
     {
-        match self {
-            StreamState::Good => 0,
-            StreamState::BadWord => 1,
-            StreamState::Ended => 2,
-        }
+        self as u8
     }
 }
 
