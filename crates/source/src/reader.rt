@@ -1,6 +1,5 @@
 //! Values read from a source.
-// A source and its count stay two parameters: a struct of both would hold the source by `&mut`, and then each clause
-// about it needs another which says that it is still the same source.
+// A source and its count stay two parameters: a struct of both lends the source, and each clause then needs one more, that it is still the same.
 ghost use Rattle.std.specs.Prelude.{◌≡◌, ℕ, List, Result};
 ghost use Rattle.source.specs.Characters.{signed_byte};
 ghost use Rattle.source.specs.Reads.{integer_read, boolean_read, character_read};

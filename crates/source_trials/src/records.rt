@@ -7,6 +7,7 @@ use source::{Recorder, Source, Text};
 use std::io;
 
 /// Takes all that waits, and tells how many bytes there were.
+// A loop, since a source is no iterator: a host gives `peek` and `take` alone, and each loop is proved to end by what waits.
 fn count_bytes<S: Source>(s: &mut S) -> u32
     ensures { result ≡ length (S.waiting s.old) }
 {
