@@ -6,7 +6,6 @@ use Rattle.types.specs.declared.kinds.Shape.TheVariants.{Scalar, Vector, Interva
 use Rattle.types.specs.declared.typing.Typing.{Typing}
 use Rattle.types.specs.Types.{same_shape}
 use Rattle.types.specs.Typings.{is, of, flat, alone, matches}
-use Rattle.source.specs.declared.state.ReadValue.{ReadValue}
 use Rattle.source.specs.Taking.{counted, gone}
 use Rattle.fault.specs.declared.causes.Cause.{Cause}
 use Rattle.fault.specs.declared.causes.Cause.TheVariants.{SizesDiffer, Disordered, NoRule}
@@ -26,7 +25,7 @@ use Rattle.meaning.specs.Plans.{Outcome, gives, faults, outcome, with}
 use Rattle.meaning.specs.Expressions.{in_order, count, by1, by2, by3, evaluated}
 use Rattle.meaning.specs.Changes.{nulls, declared, assigned, stored_at, stored_at_two}
 use Rattle.meaning.specs.Texts.{text}
-use Rattle.meaning.specs.Reading.{reading, unread}
+use Rattle.meaning.specs.Reading.{ReadValue, reading, unread}
 use Rattle.meaning.specs.States.{State, slip_at, value_at, holding, taking, refilled, blanked, printing, streaming, blank_slip, FreeAt}
 
 -- where the sheet goes on, or the row's fault

@@ -1,5 +1,6 @@
 -- Blanks, the word and the rest are all that waits, and what is left is the end of it.
-use Rattle.std.proofs.Common.{◌≡◌, ℕ, ◌<◌, Bool, true, false, cond, List, [], ◌∷◌, ◌++◌, length, drop, sym, refl, ap, ◌∙◌, append_assoc, arith, length-append}
+use Rattle.std.proofs.Common.{◌≡◌, ℕ, Bool, true, false, cond, List, [], ◌∷◌, ◌++◌, length, drop, sym, refl, ap, ◌∙◌, append_assoc, arith, length-append}
+use Rattle.std.proofs.Math.Seq.{drop-append_seam}
 use Rattle.source.specs.Taking.{gone}
 use Rattle.source.specs.Words.{blank, blanks, after_blanks, run, after_run, word, rest}
 
@@ -23,15 +24,11 @@ cut_run (x ∷ xs) = ends (blank x) x xs (run xs) (after_run xs) (cut_run xs)
 pub cut : (xs : List ℕ) → xs ≡ blanks xs ++ (word xs ++ rest xs)
 cut xs = sym (ap (λ l. blanks xs ++ l) (cut_run (after_blanks xs)) ∙ cut_blanks xs)
 
-drop_front : (xs ys : List ℕ) → drop (length xs) (xs ++ ys) ≡ ys
-drop_front [] ys = refl
-drop_front (x ∷ xs) ys = drop_front xs ys
-
 -- what stands behind some bytes is what is left without them
 suffix : (zs xs ys : List ℕ) → zs ≡ xs ++ ys → ys ≡ drop (gone zs ys) zs
 suffix zs xs ys e =
     let n : gone zs ys ≡ length xs = omega (arith, ap length e, length-append xs ys) in
-    sym (ap (λ k. drop k zs) n ∙ ap (drop (length xs)) e ∙ drop_front xs ys)
+    sym (ap (λ k. drop k zs) n ∙ ap (drop (length xs)) e ∙ drop-append_seam xs ys)
 
 module _ (xs ys : List ℕ) (e : ys ≡ rest xs) where
   pub parts : xs ≡ blanks xs ++ (word xs ++ ys)
@@ -39,7 +36,3 @@ module _ (xs ys : List ℕ) (e : ys ≡ rest xs) where
 
   pub from_front : ys ≡ drop (gone xs ys) xs
   from_front = suffix xs (blanks xs ++ word xs) ys (parts ∙ sym (append_assoc (blanks xs) (word xs) ys))
-
--- a word that is read leaves less
-pub fewer_rest : (xs : List ℕ) → 0 < length (word xs) → length (rest xs) < length xs
-fewer_rest xs h = omega (arith, simp length-append at (ap length (cut xs)))

@@ -1,7 +1,4 @@
 pub mod Chains
 pub mod Cuts
-pub mod Fronts
-pub mod Integers
-pub mod Letters
-pub mod Recording
+pub mod Scanning
 pub mod Spelling

@@ -1,10 +1,11 @@
 -- No recorder has more bytes waiting than a source may have.
-use Rattle.std.specs.Prelude.{ℕ, zero, suc, ◌+◌, ◌*◌, ◌/◌, ◌%◌, ◌≤◌, Bool, false, List, [], ◌∷◌, length, take, drop, ℤ, pos, negsuc, ◌==◌}
-use Rattle.std.proofs.Common.{arith, length-append, length-drop, length-take}
+use Rattle.std.specs.Prelude.{ℕ, zero, suc, ◌+◌, ◌*◌, ◌/◌, ◌%◌, ◌≤◌, Bool, false, List, [], ◌∷◌, length, ℤ, pos, negsuc, ◌==◌}
+use Rattle.std.proofs.Common.{arith, length-append}
+use Rattle.std.proofs.lemmas.List.{length-reverse}
 use Rattle.std.specs.Fmt.{digits_onto, digits, digit_glyph, signed_decimal}
 use Rattle.std.proofs.lemmas.Bool.{cond_both}
 use Rattle.source.specs.Lines.{lines_of}
-use Rattle.source.specs.Records.{going, recorded}
+use Rattle.source.specs.Records.{recorded}
 use Rattle.source.specs.declared.recorder.Recorder.{Recorder}
 
 spelled_short : (k n : ℕ) (upper : Bool) (acc : List ℕ) → length (digits_onto k 10 upper n acc) ≤ k + length acc
@@ -23,13 +24,5 @@ lines_short : (zs : List ℤ) → length (lines_of zs) ≤ 66 * length zs
 lines_short [] = omega arith
 lines_short (z ∷ zs) = simp length-append (omega (arith, signed_short z, lines_short zs))
 
-going_short : (bs more : List ℕ) → length (going bs more) ≤ length bs + length more
-going_short [] more = omega arith
-going_short (b ∷ bs) more = simp length-append (omega arith)
-
 pub recorded_short : (r : Recorder) → length (recorded r) ≤ 16777216
-recorded_short r =
-    let bytes = take 12 r.line.bytes in
-    let readings = take 65536 r.readings.now in
-    let later = drop r.next readings in
-    omega (arith, going_short (drop r.line.from bytes) (lines_of later), length-drop r.line.from bytes, length-take 12 r.line.bytes, lines_short later, length-drop r.next readings, length-take 65536 r.readings.now)
+recorded_short r = simp (length-append, length-reverse) (omega (arith, lines_short r.readings.now, r.line.short, r.few))

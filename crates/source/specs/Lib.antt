@@ -1,8 +1,11 @@
+pub mod BooleanWords
 pub mod Booleans
 pub mod Bounds
 pub mod Characters
+pub mod IntegerWords
 pub mod Integers
 pub mod Letters
+pub mod LineBounds
 pub mod Lines
 pub mod Making
 pub mod Numerals
@@ -13,4 +16,5 @@ pub mod States
 pub mod Taking
 pub mod Texts
 pub mod Waiting
+pub mod Wanted
 pub mod Words

@@ -1,5 +1,5 @@
 -- The line of a reading: its decimal text and a line feed. The text of a table is the lines of its readings.
-use Rattle.std.specs.Prelude.{ℕ, List, [], ◌∷◌, ◌++◌, take, drop, ℤ}
+use Rattle.std.specs.Prelude.{ℕ, List, [], ◌∷◌, ◌++◌, reverse, ℤ}
 use Rattle.std.specs.List.{flat_map}
 use Rattle.std.specs.Fmt.{signed_decimal}
 use Rattle.source.specs.declared.line.Line.{Line}
@@ -12,4 +12,4 @@ lines_of zs = flat_map line_of zs
 
 -- the bytes that are left of a line in hand
 abbrev pub left_of : Line → List ℕ
-left_of l = drop l.from (take 12 l.bytes)
+left_of l = reverse l.stack.items

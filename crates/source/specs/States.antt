@@ -1,6 +1,7 @@
--- The states of the stream by number, and what a read tells in each.
-use Rattle.std.specs.Prelude.{ℕ, Some, None, Option}
-use Rattle.source.specs.declared.state.ReadValue.{ReadValue}
+-- The states of the stream by number, in which state a read leaves it, and a misread in words.
+use Rattle.std.specs.Prelude.{ℕ, List, Result, Ok, Err, codes}
+use Rattle.source.specs.declared.state.Misread.{Misread}
+use Rattle.source.specs.declared.state.Misread.TheVariants.{BadWord as Unread, Ended as Missing}
 use Rattle.source.specs.declared.state.StreamState.{StreamState}
 use Rattle.source.specs.declared.state.StreamState.TheVariants.{Good, BadWord, Ended}
 
@@ -9,16 +10,11 @@ state_number Good = 0
 state_number BadWord = 1
 state_number Ended = 2
 
-abbrev pub good : {T : Type 0} → T → ReadValue T
-good v = record { value = v; state = Good }
+abbrev pub state_of : {T : Type 0} → Result T Misread → StreamState
+state_of (Ok v) = Good
+state_of (Err Unread) = BadWord
+state_of (Err Missing) = Ended
 
-abbrev pub bad_word : {T : Type 0} → T → ReadValue T
-bad_word null = record { value = null; state = BadWord }
-
-abbrev pub ended : {T : Type 0} → T → ReadValue T
-ended null = record { value = null; state = Ended }
-
--- of a word, by the value that it writes, if it writes one
-abbrev pub judged : {T : Type 0} → T → Option T → ReadValue T
-judged null None = bad_word null
-judged null (Some v) = good v
+abbrev pub misread_text : Misread → List ℕ
+misread_text Unread = codes "the word writes no such value"
+misread_text Missing = codes "no word before the end"

@@ -1,5 +1,5 @@
 -- The bytes that wait, cut into blanks, a word and the rest.
-use Rattle.std.specs.Prelude.{◌≡◌, ℕ, Bool, cond, ◌||◌, List, [], ◌∷◌, ◌++◌, ◌==◌}
+use Rattle.std.specs.Prelude.{◌≡◌, ℕ, Bool, cond, ◌||◌, List, [], ◌∷◌, ◌++◌, take, ◌==◌}
 
 -- space, tab, line feed, carriage return
 abbrev pub blank : ℕ → Bool
@@ -33,3 +33,7 @@ rest bs = after_run (after_blanks bs)
 -- blanks and a word were removed, and nothing else
 abbrev pub Parted : List ℕ → List ℕ → Type 0
 Parted before after = before ≡ blanks before ++ (word before ++ after)
+
+-- the first byte was removed, if there was one
+abbrev pub FirstParted : List ℕ → List ℕ → Type 0
+FirstParted before after = before ≡ take 1 before ++ after

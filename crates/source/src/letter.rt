@@ -1,8 +1,10 @@
 //! A word as a boolean, byte by byte.
-ghost use Rattle.std.specs.Prelude.{◌≡◌};
 ghost use Rattle.source.specs.Letters.{joins, truth};
+ghost use Rattle.source.specs.Reads.{boolean_told};
+ghost use Rattle.source.specs.declared.letter.Letter.TheVariants.{Missing};
+ghost use Rattle.source.specs.BooleanWords.{says};
 
-use crate::state::ReadValue;
+use crate::state::Misread;
 use crate::words::Scanner;
 
 /// What a word is so far: of interest only while it is one letter.
@@ -14,7 +16,21 @@ pub enum Letter {
 }
 
 impl Scanner for Letter {
+    type Value = bool;
+
+    ghost empty = { Missing };
+
     ghost after = { joins };
+
+    ghost ended = { truth };
+
+    ghost told = { boolean_told };
+
+    ghost tells = { says };
+
+    fn empty_word() -> Letter {
+        Letter::Missing
+    }
 
     fn push(self, byte: u8) -> Letter {
         match self {
@@ -22,18 +38,14 @@ impl Scanner for Letter {
             _ => Letter::Several,
         }
     }
-}
 
-impl Letter {
     /// `T` is true, `F` is false, and no other word is a boolean.
-    pub fn truth(self) -> ReadValue<bool>
-        ensures { result ≡ truth self }
-    {
+    fn finish(self) -> Result<bool, Misread> {
         match self {
-            Letter::Missing => ReadValue::ended(false),
-            Letter::One(b'T') => ReadValue::good(true),
-            Letter::One(b'F') => ReadValue::good(false),
-            _ => ReadValue::bad_word(false),
+            Letter::Missing => Err(Misread::Ended),
+            Letter::One(b'T') => Ok(true),
+            Letter::One(b'F') => Ok(false),
+            _ => Err(Misread::BadWord),
         }
     }
 }

@@ -2,8 +2,11 @@
 ghost use Rattle.std.specs.Prelude.{◌≡◌};
 ghost use Rattle.source.specs.Integers.{ranged};
 ghost use Rattle.source.specs.Numerals.{figure, step, finished};
+ghost use Rattle.source.specs.Reads.{integer_told};
+ghost use Rattle.source.specs.declared.numeral.Numeral.TheVariants.{Empty};
+ghost use Rattle.source.specs.IntegerWords.{writes};
 
-use crate::state::ReadValue;
+use crate::state::Misread;
 use crate::words::Scanner;
 
 /// The sign in front of digits; none is a plus.
@@ -22,10 +25,7 @@ impl Sign {
             Sign::Plus => i64::from(magnitude),
             Sign::Minus => -i64::from(magnitude),
         };
-        match i32::try_from(value) {
-            Ok(value) => Some(value),
-            Err(_) => None,
-        }
+        i32::try_from(value).ok()
     }
 }
 
@@ -50,7 +50,21 @@ fn digit(sign: Sign, magnitude: u32, byte: u8) -> Numeral
 }
 
 impl Scanner for Numeral {
+    type Value = i32;
+
+    ghost empty = { Empty };
+
     ghost after = { step };
+
+    ghost ended = { finished };
+
+    ghost told = { integer_told };
+
+    ghost tells = { writes };
+
+    fn empty_word() -> Numeral {
+        Numeral::Empty
+    }
 
     fn push(self, byte: u8) -> Numeral {
         match self {
@@ -64,21 +78,12 @@ impl Scanner for Numeral {
             Numeral::Broken => Numeral::Broken,
         }
     }
-}
 
-impl Numeral {
-    /// What is told of a word that ends here.
-    pub fn read(self) -> ReadValue<i32>
-        ensures { result ≡ finished self }
-    {
-        let value = match self {
-            Numeral::Empty => return ReadValue::ended(0),
-            Numeral::Digits(sign, magnitude) => sign.apply(magnitude),
-            _ => None,
-        };
-        match value {
-            Some(value) => ReadValue::good(value),
-            None => ReadValue::bad_word(0),
+    fn finish(self) -> Result<i32, Misread> {
+        match self {
+            Numeral::Empty => Err(Misread::Ended),
+            Numeral::Digits(sign, magnitude) => sign.apply(magnitude).ok_or(Misread::BadWord),
+            Numeral::Signed(_) | Numeral::Broken => Err(Misread::BadWord),
         }
     }
 }

@@ -1,48 +1,75 @@
-//! Values read from a source. Each read adds the bytes that it takes to `taken`, which stops at its greatest.
-ghost use Rattle.std.specs.Prelude.{◌≡◌};
+//! Values read from a source.
+// A source and its count stay two parameters: a struct of both lends the source, and each clause then needs one more, that it is still the same.
+ghost use Rattle.std.specs.Prelude.{◌≡◌, ℕ, List, Result};
 ghost use Rattle.source.specs.Characters.{signed_byte};
 ghost use Rattle.source.specs.Reads.{integer_read, boolean_read, character_read};
 ghost use Rattle.source.specs.Taking.{Took};
 ghost use Rattle.source.specs.Waiting.{behind};
-ghost use Rattle.source.specs.Words.{rest, Parted};
+ghost use Rattle.source.specs.Words.{rest, Parted, FirstParted};
+ghost use Rattle.source.specs.declared.state.Misread.{Misread as Misreads};
 
 use crate::letter::Letter;
 use crate::numeral::Numeral;
 use crate::source::Source;
-use crate::state::ReadValue;
-use crate::words::scan_word;
+use crate::state::Misread;
+use crate::words::{next_if, read_word};
 
-/// Reads the next word as an integer: a sign or none, and digits, within 32 bits.
-pub fn read_integer<S: Source>(s: &mut S, taken: &mut u32) -> ReadValue<i32>
-    ensures told { result ≡ integer_read (S.waiting s.old) }
-    ensures waits { S.waiting s.new ≡ rest (S.waiting s.old) }
-    ensures parts { Parted (S.waiting s.old) (S.waiting s.new) }
-    ensures took { Took (S.waiting s.old) (S.waiting s.new) taken.old taken.new }
-{
-    scan_word(s, taken, Numeral::Empty).read()
+/// A value that is read from the front of what waits.
+pub trait Readable: Sized {
+    // What is read of the bytes that wait.
+    ghost read_of: { List ℕ → Result Self Misreads };
+
+    // What waits afterwards.
+    ghost left_by: { List ℕ → List ℕ };
+
+    // How what waited is cut into what a read takes and what it leaves.
+    ghost parted: { List ℕ → List ℕ → Type 0 };
+
+    /// Reads a value. The bytes that it takes are added to `taken`, which stops at its greatest.
+    fn read<S: Source>(source: &mut S, taken: &mut u32) -> Result<Self, Misread>
+        ensures told { result ≡ read_of (S.waiting source.old) }
+        ensures waits { S.waiting source.new ≡ left_by (S.waiting source.old) }
+        ensures parts { parted (S.waiting source.old) (S.waiting source.new) }
+        ensures took { Took (S.waiting source.old) (S.waiting source.new) taken.old taken.new };
 }
 
-/// Reads the next word as a boolean, `T` or `F`.
-pub fn read_boolean<S: Source>(s: &mut S, taken: &mut u32) -> ReadValue<bool>
-    ensures told { result ≡ boolean_read (S.waiting s.old) }
-    ensures waits { S.waiting s.new ≡ rest (S.waiting s.old) }
-    ensures parts { Parted (S.waiting s.old) (S.waiting s.new) }
-    ensures took { Took (S.waiting s.old) (S.waiting s.new) taken.old taken.new }
-{
-    scan_word(s, taken, Letter::Missing).truth()
+/// The next word as an integer: a sign or none, and digits, within 32 bits.
+impl Readable for i32 {
+    ghost read_of = { integer_read };
+
+    ghost left_by = { rest };
+
+    ghost parted = { Parted };
+
+    fn read<S: Source>(source: &mut S, taken: &mut u32) -> Result<i32, Misread> {
+        read_word::<S, Numeral>(source, taken)
+    }
 }
 
-/// Reads the next byte, blank or not, as a signed number; at the end -1. The stream is good in either case.
-pub fn read_character<S: Source>(s: &mut S, taken: &mut u32) -> ReadValue<i8>
-    ensures told { result ≡ character_read (S.waiting s.old) }
-    ensures waits { S.waiting s.new ≡ behind (S.waiting s.old) }
-    ensures took { Took (S.waiting s.old) (S.waiting s.new) taken.old taken.new }
-{
-    let next = s.take();
-    *taken = taken.saturating_add(u32::from(next.is_some()));
-    match next {
-        Some(byte) => ReadValue::good(signed_byte(byte)),
-        None => ReadValue::good(-1),
+/// The next word as a boolean, `T` or `F`.
+impl Readable for bool {
+    ghost read_of = { boolean_read };
+
+    ghost left_by = { rest };
+
+    ghost parted = { Parted };
+
+    fn read<S: Source>(source: &mut S, taken: &mut u32) -> Result<bool, Misread> {
+        read_word::<S, Letter>(source, taken)
+    }
+}
+
+/// The next byte, blank or not, as a signed number; at the end -1, which is no misread.
+impl Readable for i8 {
+    ghost read_of = { character_read };
+
+    ghost left_by = { behind };
+
+    ghost parted = { FirstParted };
+
+    fn read<S: Source>(source: &mut S, taken: &mut u32) -> Result<i8, Misread> {
+        let next = next_if(source, taken, |_| true);
+        Ok(next.map_or(-1, signed_byte))
     }
 }
 

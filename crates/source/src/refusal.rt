@@ -2,13 +2,14 @@
 ghost use Rattle.std.specs.Prelude.{◌≡◌, Some};
 ghost use Rattle.source.specs.Refusals.{refusal_number, refusal_text};
 
+use std::error::Error;
 use std::fmt;
 
 /// Why bytes or readings are refused as a source.
 #[derive(Clone, Copy, PartialEq, Eq, Debug)]
 pub enum SourceRefusal {
     /// There are more than a source may hold.
-    TooLong,
+    TooLong = 12,
 }
 
 impl SourceRefusal {
@@ -16,9 +17,7 @@ impl SourceRefusal {
     pub fn number(self) -> u8
         ensures { result ≡ refusal_number self }
     {
-        match self {
-            SourceRefusal::TooLong => 12,
-        }
+        self as u8
     }
 
     /// The refusal in words.
@@ -38,3 +37,5 @@ impl fmt::Display for SourceRefusal {
         f.write_str(self.text())
     }
 }
+
+impl Error for SourceRefusal {}

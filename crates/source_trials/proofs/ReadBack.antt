@@ -1,5 +1,5 @@
 -- The line of a number is read as that number.
-use Rattle.std.proofs.Common.{◌≡◌, ℕ, suc, ◌^◌, ◌<◌, true, false, cond, eqb, List, [], ◌∷◌, ◌++◌, length, ℤ, pos, negsuc, Some, None, decimal, refl, ap, ◌∙◌, arith, rules}
+use Rattle.std.proofs.Common.{◌≡◌, ℕ, suc, ◌^◌, ◌<◌, true, false, cond, eqb, List, [], ◌∷◌, ◌++◌, length, ℤ, pos, negsuc, Some, None, Ok, decimal, refl, ap, ◌∙◌, arith, rules}
 use lib.Signed.{mag}
 use Rattle.std.proofs.lemmas.Fmt.{digits_decimal, digits_value-decimal, decimal_nonempty}
 use Rattle.std.proofs.lemmas.Str.Parse.{IsNumeralModel, numerals_by_fold}
@@ -12,8 +12,7 @@ use Rattle.source.specs.declared.numeral.Sign.{Sign}
 use Rattle.source.specs.declared.numeral.Sign.TheVariants.{Plus, Minus}
 use Rattle.source.specs.Integers.{onward, ranged, numeral, integer}
 use Rattle.source.specs.Lines.{line_of}
-use Rattle.source.specs.Reads.{told, integer_read}
-use Rattle.source.specs.States.{good, judged}
+use Rattle.source.specs.Reads.{judged, told, integer_read}
 use Rattle.source.specs.Words.{blank, after_blanks, run, word}
 
 own : IsNumeralModel (λ ds. all_ascii_digits ds ≡ true) (onward 0)
@@ -60,9 +59,9 @@ word_back (negsuc n) more h =
     let all = digits_decimal own (suc n) small in
     ap (λ l. integer (45 ∷ l)) (run_digits (decimal (suc n)) more all) ∙ figures Minus (decimal (suc n)) (suc n) some all (digits_value-decimal own (suc n) small) ∙ cond-true _ (Some (negsuc n)) None (lt-ltb (suc n) 2147483649 (omega arith))
 
-some_told : (w : List ℕ) (z : ℤ) → integer w ≡ Some z → told (pos 0) w (integer w) ≡ good z
+some_told : (w : List ℕ) (z : ℤ) → integer w ≡ Some z → told w (integer w) ≡ Ok z
 some_told [] z e = let never : ◌≡◌ {A = ℕ} 0 1 = cc in absurd (omega arith)
-some_told (c ∷ cs) z e = ap (judged (pos 0)) e
+some_told (c ∷ cs) z e = ap judged e
 
-pub back : (z : ℤ) → mag z < 2 ^ 31 → integer_read (line_of z) ≡ good z
+pub back : (z : ℤ) → mag z < 2 ^ 31 → integer_read (line_of z) ≡ Ok z
 back z h = some_told (word (line_of z)) z (word_back z [] h)

@@ -1,27 +1,24 @@
 //! What a recorder writes is read back as the reading.
-ghost use Rattle.std.specs.Prelude.{◌≡◌};
-ghost use Rattle.source.specs.States.{good};
+ghost use Rattle.std.specs.Prelude.{◌≡◌, Ok};
 
-use source::{ReadValue, Recorder, read_integer};
+use source::{Misread, Readable, Recorder, StreamState};
 use std::io;
 
 /// Reads the line of one reading: the reading again, whatever it is.
-pub(crate) fn read_back(reading: i32) -> ReadValue<i32>
-    ensures { result ≡ good reading }
+pub(crate) fn read_back(reading: i32) -> Result<i32, Misread>
+    ensures { result ≡ Ok reading }
 {
     let readings = [reading];
     match Recorder::new(&readings) {
-        Ok(mut recorder) => {
-            let mut taken = 0;
-            read_integer(&mut recorder, &mut taken)
-        }
-        Err(_) => ReadValue::bad_word(0),
+        Ok(mut recorder) => { i32::read(&mut recorder, &mut 0) }
+        Err(_) => Err(Misread::BadWord),
     }
 }
 
 fn show(rt: &HostRuntime, reading: i32) -> io::Result<()> {
-    let ReadValue { value, state } = read_back(reading);
-    let state = state.number();
+    let read = read_back(reading);
+    let state = StreamState::from(&read).number();
+    let value = read.unwrap_or_default();
     println!(rt; "{reading}: {value}, state {state}")
 }
 

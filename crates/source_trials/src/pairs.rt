@@ -5,17 +5,17 @@ ghost use Rattle.source.specs.Taking.{Took};
 ghost use Rattle.source.specs.Words.{rest};
 
 use crate::table::show;
-use source::{ReadValue, Source, Text, read_integer};
+use source::{Misread, Readable, Source, Text};
 use std::io;
 
 /// Reads two integers, the second from where the first ends.
-fn read_pair<S: Source>(s: &mut S, taken: &mut u32) -> (ReadValue<i32>, ReadValue<i32>)
+fn read_pair<S: Source>(s: &mut S, taken: &mut u32) -> (Result<i32, Misread>, Result<i32, Misread>)
     ensures one { result.0 ≡ integer_read (S.waiting s.old) }
     ensures two { result.1 ≡ integer_read (rest (S.waiting s.old)) }
     ensures took { Took (S.waiting s.old) (S.waiting s.new) taken.old taken.new }
 {
-    let one = read_integer(s, taken);
-    let two = read_integer(s, taken);
+    let one = i32::read(s, taken);
+    let two = i32::read(s, taken);
     (one, two)
 }
 

@@ -2,11 +2,12 @@
 ghost use Rattle.std.specs.Prelude.{◌≡◌, length};
 
 use crate::repeated::Repeated;
-use crate::table::{integer, refused, show};
-use source::{Recorder, Source, Text, read_integer};
+use crate::table::{refused, trial, turn};
+use source::{Recorder, Source, Text};
 use std::io;
 
 /// Takes all that waits, and tells how many bytes there were.
+// A loop, since a source is no iterator: a host gives `peek` and `take` alone, and each loop is proved to end by what waits.
 fn count_bytes<S: Source>(s: &mut S) -> u32
     ensures { result ≡ length (S.waiting s.old) }
 {
@@ -71,9 +72,9 @@ fn length_of(rt: &HostRuntime, name: &str, readings: &[i32]) -> io::Result<()> {
 pub(crate) fn limits(rt: &HostRuntime) -> io::Result<()> {
     println!(rt; "limits")?;
     let blanks = vec![in rt.alloc(); b' '; 16_777_217]?;
-    integer(rt, "16777217 blanks", &blanks)?;
+    trial::<i32>(rt, "16777217 blanks", &blanks)?;
     if let Some(fewer) = blanks.get(1..) {
-        integer(rt, "16777216 blanks", fewer)?;
+        trial::<i32>(rt, "16777216 blanks", fewer)?;
     }
     let readings = vec![in rt.alloc(); -2147483648; 65_537]?;
     length_of(rt, "65537 readings", &readings)?;
@@ -87,15 +88,7 @@ pub(crate) fn long_words(rt: &HostRuntime) -> io::Result<()> {
     println!(rt; "long words")?;
     let mut bytes = [b'0'; 1001];
     bytes[1000] = b'7';
-    integer(rt, "a thousand zeros and 7", &bytes)?;
+    trial::<i32>(rt, "a thousand zeros and 7", &bytes)?;
     let mut zeros = Repeated::new(b'0', 4_294_967_295);
-    let mut taken = 0;
-    let read = read_integer(&mut zeros, &mut taken);
-    show(
-        rt,
-        "as many zeros as a source may have",
-        read,
-        taken,
-        &zeros,
-    )
+    turn::<i32, Repeated>(rt, "as many zeros as a source may have", &mut zeros, &mut 0)
 }

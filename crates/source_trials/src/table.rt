@@ -1,18 +1,18 @@
 //! Lines of the table: what a read tells of a text, how many bytes it takes, and what waits next.
-use source::{ReadValue, Source, SourceRefusal, Text, read_boolean, read_character, read_integer};
+use source::{Misread, Readable, Source, SourceRefusal, StreamState, Text};
 use std::fmt::Display;
 use std::io;
 
-/// Prints one read, with its case's name.
-pub(crate) fn show<T: Display + Drop, S: Source>(
+/// Prints one read, with its case's name. A value that is not read shows as the null of its kind.
+pub(crate) fn show<T: Display + Default + Drop, S: Source>(
     rt: &HostRuntime,
     name: &str,
-    read: ReadValue<T>,
+    read: Result<T, Misread>,
     taken: u32,
     s: &S,
 ) -> io::Result<()> {
-    let ReadValue { value, state } = read;
-    let state = state.number();
+    let state = StreamState::from(&read).number();
+    let value = read.unwrap_or_default();
     print!(rt; "{name}: {value}, state {state}, taken {taken}, next ")?;
     match s.peek() {
         Some(byte) => println!(rt; "{byte}"),
@@ -20,37 +20,27 @@ pub(crate) fn show<T: Display + Drop, S: Source>(
     }
 }
 
-pub(crate) fn integer(rt: &HostRuntime, name: &str, bytes: &[u8]) -> io::Result<()> {
+/// Reads one value of a text from its front, and prints how that went.
+pub(crate) fn trial<T: Readable + Display + Default + Drop>(
+    rt: &HostRuntime,
+    name: &str,
+    bytes: &[u8],
+) -> io::Result<()> {
     match Text::new(bytes) {
-        Ok(mut text) => {
-            let mut taken = 0;
-            let read = read_integer(&mut text, &mut taken);
-            show(rt, name, read, taken, &text)
-        }
+        Ok(mut text) => turn::<T, Text>(rt, name, &mut text, &mut 0),
         Err(refusal) => refused(rt, name, refusal),
     }
 }
 
-pub(crate) fn boolean(rt: &HostRuntime, name: &str, bytes: &[u8]) -> io::Result<()> {
-    match Text::new(bytes) {
-        Ok(mut text) => {
-            let mut taken = 0;
-            let read = read_boolean(&mut text, &mut taken);
-            show(rt, name, read, taken, &text)
-        }
-        Err(refusal) => refused(rt, name, refusal),
-    }
-}
-
-pub(crate) fn character(rt: &HostRuntime, name: &str, bytes: &[u8]) -> io::Result<()> {
-    match Text::new(bytes) {
-        Ok(mut text) => {
-            let mut taken = 0;
-            let read = read_character(&mut text, &mut taken);
-            show(rt, name, read, taken, &text)
-        }
-        Err(refusal) => refused(rt, name, refusal),
-    }
+/// Reads one value where the last read left off, and prints how that went.
+pub(crate) fn turn<T: Readable + Display + Default + Drop, S: Source>(
+    rt: &HostRuntime,
+    name: &str,
+    s: &mut S,
+    taken: &mut u32,
+) -> io::Result<()> {
+    let read = T::read(s, taken);
+    show(rt, name, read, *taken, s)
 }
 
 pub(crate) fn refused(rt: &HostRuntime, name: &str, refusal: SourceRefusal) -> io::Result<()> {

@@ -1,36 +1,26 @@
 //! Many reads from one source, and a count that stops at its greatest.
-use crate::table::show;
-use source::{Source, Text, read_boolean, read_character, read_integer};
+use crate::table::turn;
+use source::{Source, Text};
 use std::io;
 
 /// Four words as integers, each where the last read left off.
-pub(crate) fn integers<S: Source>(rt: &HostRuntime, s: &mut S, taken: &mut u32) -> io::Result<()> {
-    let read = read_integer(s, taken);
-    show(rt, "first integer", read, *taken, s)?;
-    let read = read_integer(s, taken);
-    show(rt, "second integer", read, *taken, s)?;
-    let read = read_integer(s, taken);
-    show(rt, "third integer", read, *taken, s)?;
-    let read = read_integer(s, taken);
-    show(rt, "fourth integer", read, *taken, s)
+fn integers<S: Source>(rt: &HostRuntime, s: &mut S, taken: &mut u32) -> io::Result<()> {
+    turn::<i32, S>(rt, "first integer", s, taken)?;
+    turn::<i32, S>(rt, "second integer", s, taken)?;
+    turn::<i32, S>(rt, "third integer", s, taken)?;
+    turn::<i32, S>(rt, "fourth integer", s, taken)
 }
 
 fn others<S: Source>(rt: &HostRuntime, s: &mut S, taken: &mut u32) -> io::Result<()> {
-    let read = read_boolean(s, taken);
-    show(rt, "boolean", read, *taken, s)?;
-    let read = read_character(s, taken);
-    show(rt, "character", read, *taken, s)?;
-    let read = read_character(s, taken);
-    show(rt, "another character", read, *taken, s)?;
-    let read = read_boolean(s, taken);
-    show(rt, "another boolean", read, *taken, s)
+    turn::<bool, S>(rt, "boolean", s, taken)?;
+    turn::<i8, S>(rt, "character", s, taken)?;
+    turn::<i8, S>(rt, "another character", s, taken)?;
+    turn::<bool, S>(rt, "another boolean", s, taken)
 }
 
 fn at_end<S: Source>(rt: &HostRuntime, s: &mut S, taken: &mut u32) -> io::Result<()> {
-    let read = read_integer(s, taken);
-    show(rt, "last integer", read, *taken, s)?;
-    let read = read_character(s, taken);
-    show(rt, "last character", read, *taken, s)
+    turn::<i32, S>(rt, "last integer", s, taken)?;
+    turn::<i8, S>(rt, "last character", s, taken)
 }
 
 pub(crate) fn in_turn(rt: &HostRuntime) -> io::Result<()> {
@@ -47,8 +37,7 @@ pub(crate) fn in_turn(rt: &HostRuntime) -> io::Result<()> {
 pub(crate) fn greatest_count(rt: &HostRuntime) -> io::Result<()> {
     println!(rt; "a count of 4294967292 to begin with")?;
     if let Ok(mut text) = Text::new(b"12 3 4") {
-        let mut taken = 4_294_967_292;
-        integers(rt, &mut text, &mut taken)?;
+        integers(rt, &mut text, &mut 4_294_967_292)?;
     }
     Ok(())
 }

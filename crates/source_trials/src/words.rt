@@ -1,5 +1,7 @@
 //! The cases that are one word or one byte.
-use crate::table::{boolean, character, integer};
+use crate::table::trial;
+use source::Readable;
+use std::fmt::Display;
 use std::io;
 
 /// A text, and what to call it.
@@ -67,35 +69,24 @@ const CHARACTERS: [Case; 8] = [
     ("nothing", b""),
 ];
 
-fn integers(rt: &HostRuntime, title: &str, cases: &[Case]) -> io::Result<()> {
+/// Each case of a table read once.
+fn trials<T: Readable + Display + Default + Drop>(
+    rt: &HostRuntime,
+    title: &str,
+    cases: &[Case],
+) -> io::Result<()> {
     println!(rt; "{title}")?;
-    for case in cases {
-        integer(rt, case.0, case.1)?;
-    }
-    Ok(())
-}
-
-fn booleans(rt: &HostRuntime, cases: &[Case]) -> io::Result<()> {
-    println!(rt; "booleans")?;
-    for case in cases {
-        boolean(rt, case.0, case.1)?;
-    }
-    Ok(())
-}
-
-fn characters(rt: &HostRuntime, cases: &[Case]) -> io::Result<()> {
-    println!(rt; "characters")?;
-    for case in cases {
-        character(rt, case.0, case.1)?;
+    for (name, bytes) in cases {
+        trial::<T>(rt, name, bytes)?;
     }
     Ok(())
 }
 
 /// Each case read once, as its table says.
 pub(crate) fn one_by_one(rt: &HostRuntime) -> io::Result<()> {
-    integers(rt, "integers", &INTEGERS)?;
-    integers(rt, "words that are no integers", &NO_INTEGERS)?;
-    integers(rt, "blanks and ends", &BLANKS)?;
-    booleans(rt, &BOOLEANS)?;
-    characters(rt, &CHARACTERS)
+    trials::<i32>(rt, "integers", &INTEGERS)?;
+    trials::<i32>(rt, "words that are no integers", &NO_INTEGERS)?;
+    trials::<i32>(rt, "blanks and ends", &BLANKS)?;
+    trials::<bool>(rt, "booleans", &BOOLEANS)?;
+    trials::<i8>(rt, "characters", &CHARACTERS)
 }

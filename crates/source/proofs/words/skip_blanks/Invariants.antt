@@ -1,11 +1,9 @@
-use Rattle.std.proofs.Common.{◌≡◌, ◌+◌, ◌≤◌, length}
-use Rattle.source.specs.Words.{after_blanks}
+use Rattle.std.proofs.Common.{length}
+use Rattle.source.proofs.Scanning.{Skips}
 use Rattle.source.proofs.words.skip_blanks.Given as goal
 
-abbrev pub invariant-loop-byte : goal.invariant-loop-byte
-invariant-loop-byte g l =
-    let waits = g.S.Source.waiting in
-    (after_blanks (waits l.s) ≡ after_blanks (waits l.initial.s)) × (l.count + length (waits l.s) ≡ length (waits l.initial.s)) × (length (waits l.initial.s) ≤ 16777216)
+abbrev pub invariant-loop : goal.invariant-loop
+invariant-loop g l = let waits = g.S.Source.waiting in Skips (waits l.initial.s) (waits l.s) l.initial.taken l.taken
 
-abbrev pub decreases-loop-byte : goal.decreases-loop-byte
-decreases-loop-byte g l = length (g.S.Source.waiting l.s)
+abbrev pub decreases-loop : goal.decreases-loop
+decreases-loop g l = length (g.S.Source.waiting l.s)

@@ -10,4 +10,4 @@ returns-in-Ok c =
     let z = c.args.reading in
     let fits = c.ranges.reading in
     let waits = simp to_z-of_z at c.in-Ok.ensures.1 in
-    c.read_integer.ensures.told ∙ ap integer_read (waits ∙ append-nil (line_of z)) ∙ back z fits.sfits
+    c.read.ensures.told ∙ ap integer_read (waits ∙ append-nil (line_of z)) ∙ back z fits.sfits

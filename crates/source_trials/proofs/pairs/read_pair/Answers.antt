@@ -4,6 +4,6 @@ use Rattle.source_trials.proofs.pairs.read_pair.Goals as goal
 
 pub returns : goal.returns
 returns g c =
-    let one = c.read_integer-one.ensures in
-    let two = c.read_integer-two.ensures in
+    let one = c.read-one.ensures in
+    let two = c.read-two.ensures in
     record { one = one.told; two = search rules; took = took_more _ _ _ _ _ _ one.took two.took }

@@ -6,10 +6,9 @@ use Rattle.std.proofs.lemmas.Bool.{cases_lt, cond-false, le-ltb}
 use Rattle.source.specs.declared.numeral.Numeral.TheVariants.{Empty, Signed, Digits, Broken}
 use Rattle.source.specs.declared.numeral.Sign.{Sign}
 use Rattle.source.specs.declared.numeral.Sign.TheVariants.{Plus, Minus}
-use Rattle.source.specs.Integers.{onward, ranged, numeral, integer}
+use Rattle.source.specs.Integers.{onward, ranged, numeral}
 use Rattle.source.specs.Numerals.{figure, step, finished}
-use Rattle.source.specs.Reads.{told}
-use Rattle.source.specs.States.{judged}
+use Rattle.source.specs.Reads.{judged, integer_told}
 
 broken : (cs : List ℕ) → fold step Broken cs ≡ Broken
 broken [] = refl
@@ -33,11 +32,11 @@ capped s n = elim (cases_lt n 4294967295) [
   | inr h ↦ large s (min n 4294967295) (omega arith) ∙ sym (large s n h)
 ]
 
-closed : (b : Bool) (s : Sign) (n : ℕ) → finished (cond b (Digits s (min n 4294967295)) Broken) ≡ judged (pos 0) (cond b (ranged s n) None)
-closed true s n = ap (judged (pos 0)) (capped s n)
+closed : (b : Bool) (s : Sign) (n : ℕ) → finished (cond b (Digits s (min n 4294967295)) Broken) ≡ judged (cond b (ranged s n) None)
+closed true s n = ap judged (capped s n)
 closed false s n = refl
 
-after_sign : (s : Sign) (cs : List ℕ) → finished (fold step (Signed s) cs) ≡ judged (pos 0) (numeral s cs)
+after_sign : (s : Sign) (cs : List ℕ) → finished (fold step (Signed s) cs) ≡ judged (numeral s cs)
 after_sign s [] = refl
 after_sign s (c ∷ cs) = ap finished (digits s 0 0 (c ∷ cs) (omega arith)) ∙ closed (all_ascii_digits (c ∷ cs)) s (onward 0 (c ∷ cs))
 
@@ -46,8 +45,8 @@ by_sign f g true b x y z p q r h k l = h
 by_sign f g false true x y z p q r h k l = k
 by_sign f g false false x y z p q r h k l = l
 
-pub writes : (w : List ℕ) → finished (fold step Empty w) ≡ told (pos 0) w (integer w)
+pub writes : (w : List ℕ) → finished (fold step Empty w) ≡ integer_told w
 writes [] = refl
 writes (c ∷ cs) =
-    by_sign (λ x. finished (fold step x cs)) (judged (pos 0)) (eqb c 43) (eqb c 45) (Signed Plus) (Signed Minus) (figure Plus 0 c) (numeral Plus cs) (numeral Minus cs) (numeral Plus (c ∷ cs))
+    by_sign (λ x. finished (fold step x cs)) judged (eqb c 43) (eqb c 45) (Signed Plus) (Signed Minus) (figure Plus 0 c) (numeral Plus cs) (numeral Minus cs) (numeral Plus (c ∷ cs))
     (after_sign Plus cs) (after_sign Minus cs) (after_sign Plus (c ∷ cs))
