@@ -6,8 +6,7 @@ use Rattle.arithmetic.specs.declared.faults.ElementFault.{ElementFault}
 use Rattle.types.specs.declared.kinds.Kind.{Kind}
 use Rattle.types.specs.declared.kinds.Kind.TheVariants.{Integer}
 use Rattle.types.specs.declared.kinds.Shape.TheVariants.{Scalar, Interval}
-use Rattle.types.specs.declared.kinds.Size.{Size}
-use Rattle.types.specs.declared.kinds.Size.TheVariants.{Open, Known}
+use Rattle.types.specs.Types.{Size}
 use Rattle.types.specs.declared.typing.Typing.{Typing}
 use Rattle.types.specs.Types.{fits_in, is_known}
 use Rattle.types.specs.Typings.{is, of}
@@ -36,9 +35,9 @@ use Rattle.changes.proofs.Assigning.{interval_span, interval_listing}
 use Rattle.changes.proofs.Padding.{line_padded, length_between}
 
 -- what fits a written size is at most the size that comes of it
-fits_or : (n : ℕ) (z : Size) → fits_in (Known n) z ≡ true → n ≤ size_or z n
-fits_or n Open h = omega arith
-fits_or n (Known m) h = leb-true n m h
+fits_or : (n : ℕ) (z : Size) → fits_in (Some n) z ≡ true → n ≤ size_or z n
+fits_or n None h = omega arith
+fits_or n (Some m) h = leb-true n m h
 
 unless_fills : (f g : Bool) → (f || g) ≡ true → f ≡ false → g ≡ true
 unless_fills true g h e = never (sym e)
@@ -81,8 +80,8 @@ module _ (p : Place) (t : Tables) (w : Typing) (a : ℕ) (y : Layout) (ly : lawf
           value = ly;
           taken = (and_parts (takes w (known y)) (not (fills w y) || (is_known w.r && is_known w.s)) (tests p 0 (λ t u. Unit {0}) t t plan form (sym (h ∙ declare_guarded))).2).0;
           small = small;
-          rows = λ e. (let l = fits_or y.r w.r (and_parts (fits_in (Known y.r) w.r) (fits_in (Known columns) w.s) (agree e)).0 in let q = ap (λ (f : Layout). f.r) is_layout in omega (arith, l, q));
-          columns = λ e. (let l = fits_or columns w.s (and_parts (fits_in (Known y.r) w.r) (fits_in (Known columns) w.s) (agree e)).1 in let q = ap (λ (f : Layout). f.s) is_layout in omega (arith, l, q));
+          rows = λ e. (let l = fits_or y.r w.r (and_parts (fits_in (Some y.r) w.r) (fits_in (Some columns) w.s) (agree e)).0 in let q = ap (λ (f : Layout). f.r) is_layout in omega (arith, l, q));
+          columns = λ e. (let l = fits_or columns w.s (and_parts (fits_in (Some y.r) w.r) (fits_in (Some columns) w.s) (agree e)).1 in let q = ap (λ (f : Layout). f.s) is_layout in omega (arith, l, q));
         }
 
     pub declare_filled : (u : Tables) → u ≡ changed w.kind t (p.row * p.width) (λ k T. beginning k w form (value_from p.width t a y)) → Filled p p.row (outcome p.width plan) t (Ok form) u

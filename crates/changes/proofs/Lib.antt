@@ -2,7 +2,6 @@ mod Filling
 mod Reading
 mod Storing
 mod StoringTwo
-mod Moving
 mod Taking
 mod Assigning
 mod Padding

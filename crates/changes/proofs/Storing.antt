@@ -10,9 +10,10 @@ use Rattle.element.specs.Cells.{cells}
 use Rattle.picks.specs.declared.indices.Index.{Index}
 use Rattle.picks.specs.declared.indices.Index.TheVariants as indices
 use Rattle.picks.specs.declared.indices.Outside.{Outside}
-use Rattle.picks.specs.declared.operands.Values.{Values}
+use Rattle.element.specs.declared.operands.Operand.{Operand}
 use Rattle.picks.specs.Indices.{index_count, indices_of, IndexAbove, IndexBelow, first_outside}
-use Rattle.picks.specs.Stores.{stored, values_of}
+use Rattle.element.specs.Operands.{along}
+use Rattle.picks.specs.Stores.{stored}
 use Rattle.fault.specs.declared.faults.Fault.{Fault}
 use Rattle.meaning.specs.declared.layouts.Layout.{Layout}
 use Rattle.meaning.specs.declared.places.Place.{Place}
@@ -27,7 +28,8 @@ use Rattle.meaning.proofs.Shells.{never, tests}
 use Rattle.meaning.proofs.Rows.{lawful_fixed, lawful_small, vector_one, under_all}
 use Rattle.expressions.specs.Lists.{list_at}
 use Rattle.expressions.proofs.Listing.{list_count, list_order, list_elements, list_below}
-use Rattle.changes.specs.Stores.{stores, store_guard, values_at}
+use Rattle.changes.specs.Stores.{stores, store_guard}
+use Rattle.expressions.specs.Pairs.{cells_of}
 use Rattle.changes.proofs.Filling.{refused, chosen}
 use Rattle.changes.proofs.Reading.{along_cells}
 
@@ -106,14 +108,14 @@ module _ (p : Place) (t : Tables) (v b c : ℕ) (x y z : Layout) (ly : lawful p.
     all : is Scalar (known z) ≡ false → area z ≡ index_count list
     all s = ap (λ (r : ℕ). r * z.s) (vector_one z (lawful_fixed p.width z lz) (or_vector x y z ruled s)) ∙ one-mul z.s ∙ sym (length_by (is Scalar (known z)) (index_count list) z.s agree s)
 
-    module _ (to : ℕ) (et : to ≡ v * p.width) (ix : Index) (ei : ix ≡ list) (vs : Values) (ev : vs ≡ values_at p.width c z) where
+    module _ (to : ℕ) (et : to ≡ v * p.width) (ix : Index) (ei : ix ≡ list) (vs : Operand) (ev : vs ≡ cells_of p.width c z) where
       store_outside : plan.outside ≡ first_outside 1 form.s (indices_of ix t.integers)
       store_outside =
           let l = list_elements p.width t b y ly (by_integers x y z ruled) (by_list x y z ruled) ∙ ap (λ (o : Index). indices_of o t.integers) (sym ei) in
           λ i. first_outside 1 (same i).s (l i)
 
       abbrev writes : (k : Kind) → List (Cell k) → List (Cell k)
-      writes k T = stored (cells T to form.s) (indices_of ix t.integers) (values_of (null_of k) T vs (index_count ix))
+      writes k T = stored (cells T to form.s) (indices_of ix t.integers) (along (null_of k) T vs (index_count ix))
 
       store_elements : plan.elements ≡ Ok (writes x.kind (table_of x.kind t))
       store_elements =
@@ -121,10 +123,10 @@ module _ (p : Place) (t : Tables) (v b c : ℕ) (x y z : Layout) (ly : lawful p.
           let T = table_of x.kind t in
           let l = list_elements p.width t b y ly (by_integers x y z ruled) (by_list x y z ruled) ∙ ap (λ (o : Index). indices_of o t.integers) (sym ei) in
           let n = list_count p.width t b y ly in
-          let w : along k (count (value_from p.width t b y)) (value_from p.width t c z) ≡ values_of (null_of k) T vs (index_count ix) =
+          let w : along k (count (value_from p.width t b y)) (value_from p.width t c z) ≡ along (null_of k) T vs (index_count ix) =
           ap (λ (m : ℕ). along k m (value_from p.width t c z)) n
           ∙ along_cells p.width t k c z (index_count list) lz (of_kind x y z ruled) all
-          ∙ (λ i. values_of (null_of k) T (sym ev i) (index_count (sym ei i))) in
+          ∙ (λ i. along (null_of k) T (sym ev i) (index_count (sym ei i))) in
           let at = sym et in
           λ i. Ok (stored (cells T (at i) (rows i)) (l i) (w i))
 

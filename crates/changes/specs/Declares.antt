@@ -2,7 +2,6 @@
 use Rattle.std.specs.Prelude.{◌≡◌, ℕ, ◌≤◌, Bool, true, false, cond, not, ◌&&◌, ◌||◌, List, replicate, ℤ, Some, None, Result, slice_index_or}
 use Rattle.types.specs.declared.kinds.Kind.{Kind}
 use Rattle.types.specs.declared.kinds.Shape.TheVariants.{Scalar}
-use Rattle.types.specs.declared.kinds.Size.TheVariants.{Known}
 use Rattle.types.specs.declared.typing.Typing.{Typing}
 use Rattle.types.specs.Types.{same_shape, is_known, fits_in}
 use Rattle.types.specs.Typings.{is}
@@ -37,7 +36,7 @@ layout_for w y columns = layout_of w.kind w.shape (size_or w.r y.r) (size_or w.s
 
 -- such a value is no longer than is written
 abbrev pub room_for : Typing → Layout → ℕ → Bool
-room_for w y columns = fits_in (Known y.r) w.r && fits_in (Known columns) w.s
+room_for w y columns = fits_in (Some y.r) w.r && fits_in (Some columns) w.s
 
 -- how many columns the value at row a has for the variable
 abbrev pub columns_at : ℕ → List ℤ → ℕ → Typing → Layout → ℕ

@@ -6,7 +6,6 @@ use Rattle.types.specs.Typings.{is, of, alone, index}
 use Rattle.fault.specs.declared.causes.Cause.TheVariants.{Index}
 use Rattle.fault.specs.declared.faults.Fault.{Fault}
 use Rattle.picks.specs.declared.indices.Outside.{Outside}
-use Rattle.picks.specs.declared.operands.Values.{Values}
 use Rattle.picks.specs.Indices.{index_count}
 use Rattle.meaning.specs.declared.layouts.Layout.{Layout}
 use Rattle.meaning.specs.declared.places.Place.{Place}
@@ -26,7 +25,3 @@ store_guard p ints b x y z =
 -- w may be stored at row y and column z of the matrix x
 abbrev pub stores_two : Layout → Layout → Layout → Layout → Bool
 stores_two x y z w = is Matrix (known x) && (alone Integer (known y) && (alone Integer (known z) && alone x.kind (known w)))
-
--- the elements of the value of layout z at row c: a scalar's for every place
-abbrev pub values_at : ℕ → ℕ → Layout → Values
-values_at W c z = record { at = c * W; spread = is Scalar (known z) }

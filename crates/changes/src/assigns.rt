@@ -9,7 +9,7 @@ ghost use Rattle.changes.specs.Assigns.{assign_guard, giving, Given};
 ghost use Rattle.tables.specs.Frames.{values, Fills, Lasts, Makes, Stays};
 ghost use Rattle.tables.specs.Lent.{held, Kept, Reach};
 
-use crate::moves::{copy_down, unfold_interval};
+use crate::moves::unfold_interval;
 use expressions::lists::{is_orderly, list_at};
 use fault::{Cause, Fault};
 use meaning::{Layout, Place, Slip};
@@ -28,12 +28,12 @@ fn guard_assign(frame: &Frame, a: u16, x: Layout, y: Layout) -> Result<Layout, F
     if !can_take(x.typing(), y.typing()) {
         return Err(place.fault(Cause::NoRule, 0));
     }
-    if x.shape.same(y.shape) {
+    if y.is(x.shape) {
         return place.guard(true, true, None, x, x.matches(y));
     }
     let list = list_at(frame, a, y);
     let count = list.count();
-    let agree = Shape::Scalar.same(y.shape) || count == x.s;
+    let agree = y.is(Shape::Scalar) || count == x.s;
     place.guard(true, is_orderly(list), Some(count), x, agree)
 }
 
@@ -49,9 +49,9 @@ fn write_value(frame: &mut Frame, v: u16, a: u16, x: Layout, y: Layout)
     let from = place.start_of(a);
     let to = place.start_of(v);
     let n = x.area(place.width);
-    if x.shape.same(y.shape) {
-        copy_down(x.kind, from, n, to, &mut frame.tables);
-    } else if Shape::Scalar.same(y.shape) {
+    if y.is(x.shape) {
+        frame.tables.copy(x.kind, from, n, to);
+    } else if y.is(Shape::Scalar) {
         frame.tables.spread(x.kind, from, to, n);
     } else {
         let tables = &mut frame.tables;

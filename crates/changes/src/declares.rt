@@ -1,6 +1,5 @@
 //! Rows that declare a variable: nulls, or a value that fits its written type.
-ghost use Rattle.std.specs.Prelude.{◌≡◌, ◌+◌, ◌*◌, ◌<◌, ◌≤◌, true, length, IfOk};
-ghost use Rattle.types.specs.declared.kinds.Size.TheVariants.{Known};
+ghost use Rattle.std.specs.Prelude.{◌≡◌, ◌+◌, ◌*◌, ◌<◌, ◌≤◌, true, length, IfOk, Some};
 ghost use Rattle.types.specs.Types.{fits_in};
 ghost use Rattle.meaning.specs.Changes.{nulls, declared};
 ghost use Rattle.meaning.specs.Expressions.{by1, size_or};
@@ -13,22 +12,13 @@ ghost use Rattle.tables.specs.Frames.{values, Fills, Lasts, Makes, Stays};
 ghost use Rattle.tables.specs.Lent.{held, Kept, Reach};
 
 use crate::moves::unfold_padded;
+use expressions::builds::size_or;
 use expressions::lists::{is_orderly, list_at};
 use fault::{Cause, Fault};
 use meaning::{Layout, Place, Slip};
 use rules::statements::can_take;
 use tables::{Frame, Tables};
 use types::{Shape, Size, Typing};
-
-/// The written size, or n where none is written.
-fn size_or(size: Size, n: usize) -> usize
-    ensures { result ≡ size_or size n }
-{
-    match size {
-        Size::Open => n,
-        Size::Known(m) => m as usize,
-    }
-}
 
 /// The layout of a variable of nulls, whose sizes are both written.
 fn guard_nulls(place: Place, w: Typing) -> Result<Layout, Fault>
@@ -41,7 +31,7 @@ fn guard_nulls(place: Place, w: Typing) -> Result<Layout, Fault>
         r: size_or(w.r, 0),
         s: size_or(w.s, 0),
     };
-    place.guard(w.r.is_known() && w.s.is_known(), true, None, layout, true)
+    place.guard(w.r.is_some() && w.s.is_some(), true, None, layout, true)
 }
 
 /// A variable of nulls.
@@ -60,26 +50,23 @@ pub fn declare_nulls(frame: &mut Frame, w: Typing) -> Result<Layout, Fault>
 
 /// Whether n is at most the written size, where one is written.
 fn is_at_most(n: usize, size: Size) -> bool
-    ensures { result ≡ fits_in (Known n) size }
+    ensures { result ≡ fits_in (Some n) size }
 {
-    match size {
-        Size::Open => true,
-        Size::Known(m) => n <= m as usize,
-    }
+    size.is_none_or(|m| n <= usize::from(m))
 }
 
 /// Whether the value is a scalar that fills a variable of the written type.
 fn is_filling(w: Typing, y: Layout) -> bool
     ensures { result ≡ fills w y }
 {
-    !w.shape.same(y.shape) && Shape::Scalar.same(y.shape)
+    !y.is(w.shape) && y.is(Shape::Scalar)
 }
 
 /// Whether the value may begin a variable of the written type. What a scalar fills has written sizes.
 fn can_begin(w: Typing, y: Layout) -> bool
     ensures { result ≡ begins w y }
 {
-    can_take(w, y.typing()) && (!is_filling(w, y) || w.r.is_known() && w.s.is_known())
+    can_take(w, y.typing()) && (!is_filling(w, y) || w.r.is_some() && w.s.is_some())
 }
 
 /// The layout of a variable whose value has so many columns: the written sizes, or else those of the value.
@@ -112,14 +99,14 @@ fn guard_declare(frame: &Frame, w: Typing, a: u16, y: Layout) -> Result<Layout, 
     if !can_begin(w, y) {
         return Err(place.fault(Cause::NoRule, 0));
     }
-    if w.shape.same(y.shape) {
+    if y.is(w.shape) {
         let layout = layout_for(w, y, y.s);
         return place.guard(true, true, None, layout, has_room(w, y, y.s));
     }
     let list = list_at(frame, a, y);
     let count = list.count();
     let layout = layout_for(w, y, count);
-    let agree = Shape::Scalar.same(y.shape) || has_room(w, y, count);
+    let agree = y.is(Shape::Scalar) || has_room(w, y, count);
     place.guard(true, is_orderly(list), Some(count), layout, agree)
 }
 
@@ -134,11 +121,11 @@ fn write_beginning(frame: &mut Frame, w: Typing, a: u16, y: Layout, form: Layout
     let place = frame.place;
     let from = place.start_of(a);
     let to = place.start_of(place.row);
-    if w.shape.same(y.shape) {
+    if y.is(w.shape) {
         frame
             .tables
             .resize_matrix(w.kind, from, y.r, y.s, to, form.r, form.s);
-    } else if Shape::Scalar.same(y.shape) {
+    } else if y.is(Shape::Scalar) {
         frame.tables.spread(w.kind, from, to, form.r * form.s);
     } else {
         let tables = &mut frame.tables;

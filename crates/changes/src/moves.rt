@@ -12,31 +12,6 @@ use picks::intervals::write_interval;
 use tables::Tables;
 use types::Kind;
 
-/// Writes the n cells from `from` on, which lie above, from `to` on in one table.
-fn copy_cells_down<E: Element>(table: &mut [E], from: usize, n: usize, to: usize)
-    requires above { to + n ≤ from }
-    requires within { from + n ≤ length table.old }
-    ensures { table.new ≡ put table.old to (cells table.old from n) }
-{
-    for i in 0..n {
-        table[to + i] = table[from + i];
-    }
-}
-
-/// Writes the n cells from `from` on, which lie above, from `to` on in the table of a kind.
-pub fn copy_down(kind: Kind, from: usize, n: usize, to: usize, tables: &mut Tables)
-    requires above { to + n ≤ from }
-    requires within { Reach (from + n) (held tables.old) }
-    ensures value { held tables.new ≡ changed kind (held tables.old) to (λ k T. cells T from n) }
-    ensures lent { Kept tables.old tables.new }
-{
-    match kind {
-        Kind::Boolean => copy_cells_down(tables.booleans, from, n, to),
-        Kind::Character => copy_cells_down(tables.characters, from, n, to),
-        Kind::Integer => copy_cells_down(tables.integers, from, n, to),
-    }
-}
-
 /// Writes the integers of the interval whose bounds are in the cell `from` and the next one.
 pub fn unfold_interval(integers: &mut [i32], from: usize, to: usize)
     requires bounds { from + 1 < length integers.old }

@@ -8,15 +8,16 @@ ghost use Rattle.meaning.specs.Plans.{with};
 ghost use Rattle.meaning.specs.States.{value_in};
 ghost use Rattle.meaning.specs.Values.{null_of, lawful, within};
 ghost use Rattle.meaning.specs.Works.{Filled, guards, changed, Chosen};
-ghost use Rattle.changes.specs.Stores.{stores, stores_two, store_guard, values_at};
+ghost use Rattle.changes.specs.Stores.{stores, stores_two, store_guard};
 ghost use Rattle.tables.specs.Frames.{values, Fills, Lasts, Makes, Stays};
 ghost use Rattle.tables.specs.Lent.{held, Kept, Reach};
 
 use expressions::answers::answer;
 use expressions::lists::{is_orderly, list_at};
+use expressions::operands::cells_of;
 use fault::{Cause, Fault};
 use meaning::{Layout, Place, Slip};
-use picks::{Outside, Values};
+use picks::Outside;
 use tables::{Frame, Tables};
 use types::{Kind, Shape};
 
@@ -44,18 +45,8 @@ fn guard_store(frame: &Frame, b: u16, x: Layout, y: Layout, z: Layout) -> Result
     }
     let index = list_at(frame, b, y);
     let count = index.count();
-    let agree = Shape::Scalar.same(z.shape) || count == z.s;
+    let agree = z.is(Shape::Scalar) || count == z.s;
     place.guard(true, is_orderly(index), Some(count), x, agree)
-}
-
-/// The elements that the value of layout z at row c gives to a store.
-fn values_at(place: Place, c: u16, z: Layout) -> Values
-    ensures { result ≡ values_at place.width c z }
-{
-    Values {
-        at: place.start_of(c),
-        spread: Shape::Scalar.same(z.shape),
-    }
 }
 
 /// Stores the value of row c into the vector v, at the indices that row b holds.
@@ -75,7 +66,7 @@ pub fn store_row(frame: &mut Frame, v: u16, b: u16, c: u16) -> Result<Layout, Fa
     let form = guard_store(frame, b, x, y, z)?;
     let to = place.start_of(v);
     let index = list_at(frame, b, y);
-    let values = values_at(place, c, z);
+    let values = cells_of(place, c, z);
     let stored = frame.tables.store(form.kind, to, form.s, index, values);
     answer(place, form, stored)
 }

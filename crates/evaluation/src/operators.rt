@@ -6,7 +6,6 @@ ghost use Rattle.meaning.specs.Expressions.{by1, by2, prefixed, infixed, measure
 ghost use Rattle.tables.specs.Frames.{values, Fills, Lasts, Makes, Stays};
 ghost use Rattle.tables.specs.Lent.{held, Kept, Reach};
 
-use arithmetic::operators::Prefix;
 use expressions::builds::join_row;
 use expressions::calculations::{calculate_row, compare_row, decide_row};
 use expressions::copies::{reverse_row, single_row};
@@ -14,7 +13,7 @@ use expressions::integers::{columns_row, length_row, rows_row};
 use expressions::prefixes::{negate_row, not_row};
 use expressions::products::multiply_row;
 use fault::Fault;
-use instruction::{Infix, Measure};
+use instruction::{Infix, Measure, Prefix};
 use meaning::{Layout, Place, Slip};
 use selections::equalities::equate_row;
 use selections::stepping::step_row;

@@ -6,7 +6,7 @@ use Rattle.types.specs.declared.kinds.Kind.{Kind}
 use Rattle.types.specs.declared.kinds.Kind.TheVariants.{Boolean, Character, Integer}
 use Rattle.types.specs.declared.kinds.Shape.{Shape}
 use Rattle.types.specs.declared.kinds.Shape.TheVariants.{Scalar, Vector, Matrix, Interval}
-use Rattle.types.specs.declared.kinds.Size.{Size}
+use Rattle.types.specs.Types.{Size}
 use Rattle.types.specs.Types.{same_shape}
 use Rattle.types.specs.Typings.{is, of}
 use Rattle.rules.specs.Rules.{joins}

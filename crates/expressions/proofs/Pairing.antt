@@ -7,8 +7,8 @@ use Rattle.types.specs.declared.kinds.Shape.TheVariants.{Scalar}
 use Rattle.types.specs.Typings.{is, of, pairs, matches_spread}
 use Rattle.element.specs.Cells.{cells}
 use Rattle.element.proofs.Writes.{get_or_cells}
-use Rattle.elementwise.specs.declared.operands.Operand.{Operand}
-use Rattle.elementwise.specs.Operands.{end_of, along as along_table}
+use Rattle.element.specs.declared.operands.Operand.{Operand}
+use Rattle.element.specs.Operands.{end_of, along as along_table}
 use Rattle.meaning.specs.declared.layouts.Layout.{Layout}
 use Rattle.meaning.specs.declared.places.Place.{Place}
 use Rattle.meaning.specs.Values.{Cell, null_of, area, known, lawful}

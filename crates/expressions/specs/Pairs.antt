@@ -4,7 +4,8 @@ use Rattle.types.specs.declared.kinds.Kind.{Kind}
 use Rattle.types.specs.declared.kinds.Shape.TheVariants.{Scalar}
 use Rattle.types.specs.Typings.{is, of, pairs, matches_spread}
 use Rattle.fault.specs.declared.faults.Fault.{Fault}
-use Rattle.elementwise.specs.declared.operands.Operand.{Operand}
+use Rattle.element.specs.declared.operands.Operand.{Operand}
+use Rattle.element.specs.declared.operands.Operand.TheVariants as operand
 use Rattle.meaning.specs.declared.layouts.Layout.{Layout}
 use Rattle.meaning.specs.declared.places.Place.{Place}
 use Rattle.meaning.specs.Values.{layout_of, known}
@@ -12,7 +13,7 @@ use Rattle.meaning.specs.Works.{guards}
 
 -- the cells of the value of this layout at row a: a scalar's stands for every element
 abbrev pub cells_of : ℕ → ℕ → Layout → Operand
-cells_of W a x = record { at = a * W; spread = is Scalar (known x) }
+cells_of W a x = cond (is Scalar (known x)) (operand.Scalar (a * W)) (operand.Run (a * W))
 
 -- a scalar takes the layout of the other
 abbrev pub pair_layout : Kind → Layout → Layout → Layout

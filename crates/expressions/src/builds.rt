@@ -87,14 +87,11 @@ pub fn stack_row(frame: &mut Frame, a: u16, b: u16) -> Result<Layout, Fault>
     Ok(form)
 }
 
-/// A written size, or 0 where it is open.
-fn written(size: Size) -> usize
-    ensures { result ≡ size_or size 0 }
+/// The written size, or n where none is written.
+pub fn size_or(size: Size, n: usize) -> usize
+    ensures { result ≡ size_or size n }
 {
-    match size {
-        Size::Open => 0,
-        Size::Known(n) => n as usize,
-    }
+    size.map_or(n, usize::from)
 }
 
 fn guard_resize(place: Place, r: Size, s: Size, x: Layout) -> Result<Layout, Fault>
@@ -103,12 +100,12 @@ fn guard_resize(place: Place, r: Size, s: Size, x: Layout) -> Result<Layout, Fau
 {
     let t = x.typing();
     let ruled = (t.is(Shape::Vector) || t.is(Shape::Matrix))
-        && r.is_known()
-        && s.is_known()
-        && (t.is(Shape::Matrix) || r.is_exactly(1));
+        && r.is_some()
+        && s.is_some()
+        && (t.is(Shape::Matrix) || r == Some(1));
     let layout = Layout {
-        r: written(r),
-        s: written(s),
+        r: size_or(r, 0),
+        s: size_or(s, 0),
         ..x
     };
     place.guard(ruled, true, None, layout, true)

@@ -8,6 +8,6 @@ pub mod constants;
 pub mod copies;
 pub mod integers;
 pub mod lists;
-mod operands;
+pub mod operands;
 pub mod prefixes;
 pub mod products;

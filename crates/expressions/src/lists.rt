@@ -14,7 +14,7 @@ pub fn list_at(frame: &Frame, a: u16, x: Layout) -> Index
     ensures { result ≡ list_at frame.now.place.width frame.now.tables.integers.now a x }
 {
     let at = frame.place.start_of(a);
-    if Shape::Interval.same(x.shape) {
+    if x.is(Shape::Interval) {
         Index::Interval {
             low: frame.tables.integers[at],
             high: frame.tables.integers[at + 1],

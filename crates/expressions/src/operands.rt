@@ -5,7 +5,7 @@ ghost use Rattle.types.specs.Typings.{is};
 ghost use Rattle.meaning.specs.Values.{known, within};
 ghost use Rattle.expressions.specs.Pairs.{cells_of, pair_layout, pair_guard};
 
-use elementwise::operands::Operand;
+use element::operands::Operand;
 use fault::Fault;
 use meaning::{Layout, Place};
 use types::{Kind, Shape};
@@ -14,9 +14,11 @@ use types::{Kind, Shape};
 pub fn cells_of(place: Place, a: u16, x: Layout) -> Operand
     ensures { result ≡ cells_of place.width a x }
 {
-    Operand {
-        at: place.start_of(a),
-        spread: Shape::Scalar.same(x.shape),
+    let at = place.start_of(a);
+    if x.is(Shape::Scalar) {
+        Operand::Scalar(at)
+    } else {
+        Operand::Run(at)
     }
 }
 
@@ -24,7 +26,7 @@ pub fn cells_of(place: Place, a: u16, x: Layout) -> Operand
 fn pair_layout(kind: Kind, x: Layout, y: Layout) -> Layout
     ensures { result ≡ pair_layout kind x y }
 {
-    let wide = if Shape::Scalar.same(x.shape) { y } else { x };
+    let wide = if x.is(Shape::Scalar) { y } else { x };
     Layout {
         kind,
         shape: wide.shape,

@@ -1,7 +1,7 @@
 //! Rows with an operator before one value, element by element.
 ghost use Rattle.std.specs.Prelude.{◌≡◌, ℕ, ◌+◌, ◌*◌, ◌<◌, ◌≤◌, true, ◌&&◌, length, IfOk, None};
 ghost use Rattle.types.specs.Typings.{of, flat};
-ghost use Rattle.arithmetic.specs.declared.operators.Prefix.TheVariants.{Minus, Not};
+ghost use Rattle.instruction.specs.declared.instructions.Prefix.TheVariants.{Minus, Not};
 ghost use Rattle.meaning.specs.Expressions.{by1, prefixed};
 ghost use Rattle.meaning.specs.States.{value_in};
 ghost use Rattle.meaning.specs.Values.{layout_of, known, within};

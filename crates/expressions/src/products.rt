@@ -22,7 +22,7 @@ use types::{Kind, Shape};
 fn product_layout(x: Layout, y: Layout) -> Layout
     ensures { result ≡ product_layout x y }
 {
-    if Shape::Vector.same(x.shape) {
+    if x.is(Shape::Vector) {
         Layout::scalar(Kind::Integer)
     } else {
         Layout {
@@ -48,11 +48,7 @@ fn can_multiply(x: Layout, y: Layout) -> bool
 fn middle(x: Layout, y: Layout) -> usize
     ensures { result ≡ (if is Vector (known x) then y.s else y.r) }
 {
-    if Shape::Vector.same(x.shape) {
-        y.s
-    } else {
-        y.r
-    }
+    if x.is(Shape::Vector) { y.s } else { y.r }
 }
 
 fn guard_product(place: Place, x: Layout, y: Layout) -> Result<Layout, Fault>
@@ -100,7 +96,7 @@ fn write_product(
     requires within { to + area (product_layout x y) ≤ length integers.old }
     ensures { Wrote (collected 1 (product_cells x y integers.old a b)) integers.old to (area (product_layout x y)) result integers.new }
 {
-    if Shape::Vector.same(x.shape) {
+    if x.is(Shape::Vector) {
         write_dot(integers, a, b, x.s, to)
     } else {
         matrix_product(integers, a, b, x.r, x.s, y.s, to)

@@ -1,12 +1,10 @@
 -- A statement whose elements are written means what it should.
-use Rattle.std.proofs.Common.{◌≡◌, ℕ, List, Result, ap, ◌∙◌}
+use Rattle.std.proofs.Common.{Some, None, Option, ◌≡◌, ℕ, List, Result, ap, ◌∙◌}
 use Rattle.fault.specs.declared.faults.Fault.{Fault}
 use Rattle.meaning.specs.declared.layouts.Layout.{Layout}
 use Rattle.meaning.specs.declared.places.Place.{Place}
 use Rattle.meaning.specs.declared.slips.Slip.{Slip}
 use Rattle.types.specs.declared.typing.Typing.{Typing}
-use Rattle.instruction.specs.declared.instructions.Start.{Start}
-use Rattle.instruction.specs.declared.instructions.Start.TheVariants.{Nulls, Value as Given}
 use Rattle.meaning.specs.Plans.{Outcome, gives, faults, outcome}
 use Rattle.meaning.specs.Expressions.{by1}
 use Rattle.meaning.specs.Changes.{nulls, declared as declaration}
@@ -28,7 +26,7 @@ pub declared : (p : Place) (s : State) (o : Outcome) (r : Result Layout Fault) (
 declared p s (gives v) r u answer after h e f = λ n. step ((e ∙ ap (settled p) h.0) n) (holding s ((f ∙ ap (begun p s.slips) h.0) n) (h.1 n))
 declared p s (faults c element) r u answer after h e f = λ n. step ((e ∙ ap (settled p) h.0) n) (holding s ((f ∙ ap (begun p s.slips) h.0) n) (h.1 n))
 
-pub begins_with : (p : Place) (w : Typing) (v : Start) (s : State) (r : Result Layout Fault) (u : Tables) (answer : Answer) (after : List Slip) → Filled p p.row (start_outcome p.width (value_at p.width s) w v) s.tables r u
+pub begins_with : (p : Place) (w : Typing) (v : Option ℕ) (s : State) (r : Result Layout Fault) (u : Tables) (answer : Answer) (after : List Slip) → Filled p p.row (start_outcome p.width (value_at p.width s) w v) s.tables r u
     → answer ≡ settled p r → after ≡ begun p s.slips r → step answer (holding s after u) ≡ beginning p w v s
-begins_with p w Nulls s r u answer after h e f = declared p s (outcome p.width (nulls w)) r u answer after h e f
-begins_with p w (Given a) s r u answer after h e f = declared p s (by1 p.width (value_at p.width s) a (declaration w)) r u answer after h e f
+begins_with p w None s r u answer after h e f = declared p s (outcome p.width (nulls w)) r u answer after h e f
+begins_with p w (Some a) s r u answer after h e f = declared p s (by1 p.width (value_at p.width s) a (declaration w)) r u answer after h e f

@@ -1,8 +1,7 @@
 -- What check shows of a sheet is what its rows ask: operands stand before, and a variable before the operands that it takes.
-use Rattle.std.proofs.Common.{◌≡◌, ℕ, ◌<◌, ◌≤◌, true, List, [], ◌∷◌, length, ⊎_elim}
+use Rattle.std.proofs.Common.{Some, None, Option, ◌≡◌, ℕ, ◌<◌, ◌≤◌, true, List, [], ◌∷◌, length, ⊎_elim}
 use Rattle.std.proofs.lemmas.Bool.{and_parts, cases_lt}
 use Rattle.types.specs.declared.typing.Typing.{Typing}
-use Rattle.instruction.specs.declared.instructions.Start.TheVariants.{Nulls, Value as Given}
 use Rattle.instruction.specs.declared.instructions.Expression.{Expression as Make}
 use Rattle.instruction.specs.declared.instructions.Expression.TheVariants as make
 use Rattle.instruction.specs.declared.instructions.Change.{Change as Changes}
@@ -62,8 +61,8 @@ module _ (lines : List Line) (w : ℕ) (head : Typing) (sheet : Structured lines
   reads_under make.State is = tt
 
   pub reaches : (c : Changes) → says lines p ≡ Change c → Reaches p c
-  reaches (change.Declare k x r s Nulls) is = tt
-  reaches (change.Declare k x r s (Given a)) is = under a (first a [] (taken (Change (change.Declare k x r s (Given a))) is))
+  reaches (change.Declare w None) is = tt
+  reaches (change.Declare w (Some a)) is = under a (first a [] (taken (Change (change.Declare w (Some a))) is))
   reaches (change.Assign v a) is = let h = first a [] (taken (Change (change.Assign v a)) is) in (under a h, below v a (sheet.assigned p v a lt is) h)
   reaches (change.Store v b c) is =
       let h = taken (Change (change.Store v b c)) is in

@@ -37,10 +37,7 @@ pub fn change_row<S: Source>(
 {
     let place = frame.place;
     match change {
-        Change::Declare(kind, shape, r, s, start) => {
-            let written = Typing { kind, shape, r, s };
-            declare(frame, written, start)
-        }
+        Change::Declare(written, start) => declare(frame, written, start),
         Change::Assign(v, a) => assign(frame, v, a),
         Change::Store(v, b, c) => store(frame, v, b, c),
         Change::StoreTwo(v, b, c, d) => { store_two(frame, v, b, c, d) }

@@ -14,7 +14,6 @@ use changes::assigns::assign_row;
 use changes::declares::{declare_nulls, declare_row};
 use changes::stores::{store_row, store_two_row};
 use fault::Fault;
-use instruction::Start;
 use meaning::{After, Layout, Place, Slip};
 use tables::{Frame, Tables};
 use types::Typing as Type;
@@ -42,20 +41,20 @@ fn note(place: Place, res: Result<Layout, Fault>, slips: &mut [Slip])
 }
 
 /// Writes what a declaration gives to its variable.
-fn begin(frame: &mut Frame, w: Type, start: Start) -> Result<Layout, Fault>
+fn begin(frame: &mut Frame, w: Type, start: Option<u16>) -> Result<Layout, Fault>
     requires before { StartsAfter frame.old.place.row start }
     ensures filled { Fills frame.old frame.old.place.row (start_outcome frame.old.place.width (values frame.old) w start) result frame.new }
     ensures within { IfOk result (λ f. within frame.old.place.width f.r f.s ≡ true) }
     ensures stays { Stays frame.old frame.new }
 {
     match start {
-        Start::Nulls => declare_nulls(frame, w),
-        Start::Value(a) => declare_row(frame, w, a),
+        None => declare_nulls(frame, w),
+        Some(a) => declare_row(frame, w, a),
     }
 }
 
 /// A declaration: the variable takes nulls or a value.
-pub fn declare(frame: &mut Frame, w: Type, start: Start) -> Result<After, Fault>
+pub fn declare(frame: &mut Frame, w: Type, start: Option<u16>) -> Result<After, Fault>
     requires before { StartsAfter frame.old.place.row start }
     requires row { frame.old.place.row < length frame.old.slips.now }
     ensures value { InTables (beginning frame.old.place w start) frame.old.slips.now (held frame.old.tables) result frame.new.slips.now (held frame.new.tables) }

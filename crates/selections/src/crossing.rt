@@ -31,8 +31,8 @@ fn cross_shape(row: bool, column: bool) -> Shape
 fn cross_layout(kind: Kind, y: Layout, z: Layout, rows: Index, columns: Index) -> Layout
     ensures { result ≡ cross_layout kind y z rows columns }
 {
-    let row = Shape::Scalar.same(y.shape);
-    let column = Shape::Scalar.same(z.shape);
+    let row = y.is(Shape::Scalar);
+    let column = z.is(Shape::Scalar);
     let shape = cross_shape(row, column);
     if column {
         Layout {

@@ -48,9 +48,9 @@ fn are_equal(frame: &Frame, a: u16, b: u16, x: Layout, y: Layout) -> bool
     let left = place.start_of(a);
     let right = place.start_of(b);
     let many = x.area(place.width);
-    if Shape::Scalar.same(y.shape) {
+    if y.is(Shape::Scalar) {
         frame.tables.equal_throughout(x.kind, left, many, right)
-    } else if Shape::Scalar.same(x.shape) {
+    } else if x.is(Shape::Scalar) {
         frame
             .tables
             .equal_throughout(x.kind, right, y.area(place.width), left)

@@ -22,7 +22,7 @@ fn pick_layout(kind: Kind, y: Layout, list: Index) -> Layout
 {
     Layout {
         kind,
-        shape: if Shape::Scalar.same(y.shape) {
+        shape: if y.is(Shape::Scalar) {
             Shape::Scalar
         } else {
             Shape::Vector

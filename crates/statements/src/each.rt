@@ -17,7 +17,7 @@ use types::{Kind, Shape};
 fn is_ranged(x: Layout) -> bool
     ensures { result ≡ ranged x }
 {
-    Shape::Vector.same(x.shape) || Shape::Interval.same(x.shape)
+    x.is(Shape::Vector) || x.is(Shape::Interval)
 }
 
 /// Writes element n of a domain into the cell `to` of the table of its kind.

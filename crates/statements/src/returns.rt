@@ -1,6 +1,5 @@
 //! The row that ends a sheet.
-ghost use Rattle.std.specs.Prelude.{◌≡◌, ◌&&◌};
-ghost use Rattle.types.specs.declared.kinds.Size.TheVariants.{Known};
+ghost use Rattle.std.specs.Prelude.{◌≡◌, ◌&&◌, Some};
 ghost use Rattle.types.specs.Types.{agree, same_shape};
 ghost use Rattle.types.specs.Typings.{matches, of};
 ghost use Rattle.meaning.specs.Values.{known};
@@ -13,12 +12,9 @@ use types::{Size, Typing};
 
 /// Whether a size that may be open allows n.
 fn allows(size: Size, n: usize) -> bool
-    ensures { result ≡ agree size (Known n) }
+    ensures { result ≡ agree size (Some n) }
 {
-    match size {
-        Size::Open => true,
-        Size::Known(m) => m as usize == n,
-    }
+    size.is_none_or(|m| usize::from(m) == n)
 }
 
 /// Whether the value has the sizes that the head of the sheet writes.
@@ -32,7 +28,7 @@ fn has_head_sizes(head: Typing, x: Layout) -> bool
 fn has_head_type(head: Typing, x: Layout) -> bool
     ensures { result ≡ (of head.kind (known x) && same_shape head.shape x.shape) }
 {
-    head.kind.same(x.kind) && head.shape.same(x.shape)
+    x.is_of(head.kind) && x.is(head.shape)
 }
 
 /// A return: the value of row a is the sheet's, where it is of the head's kind, shape and written sizes.

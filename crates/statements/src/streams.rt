@@ -25,7 +25,7 @@ pub fn print_row(
 {
     let place = frame.place;
     let x = frame.operand(a)?;
-    if Shape::Interval.same(x.shape) {
+    if x.is(Shape::Interval) {
         return Err(place.fault(Cause::NoRule, 0));
     }
     let at = place.start_of(a);
@@ -55,7 +55,7 @@ pub fn read_row<S: Source>(
 {
     let place = frame.place;
     let x = frame.operand(i)?;
-    if !Shape::Scalar.same(x.shape) {
+    if !x.is(Shape::Scalar) {
         return Err(place.fault(Cause::NoRule, 0));
     }
     let to = place.start_of(i);

@@ -14,7 +14,7 @@ use types::Kind;
 fn equal_to_cell<E: Element>(table: &[E], at: usize, n: usize, scalar: usize) -> bool
     requires some { scalar < length table.now }
     requires within { at + n ≤ length table.now }
-    ensures { Decides result (cells table.now at n ≡ replicate n (slice_index_or table.now scalar E.Element.null)) }
+    ensures { Decides result (cells table.now at n ≡ replicate n (slice_index_or table.now scalar E.Element.NULL)) }
 {
     equality::equal_throughout(table, at, n, table[scalar])
 }

@@ -3,14 +3,16 @@ ghost use Rattle.std.specs.Prelude.{◌+◌, ◌*◌, ◌^◌, ◌<◌, ◌≤�
 ghost use Rattle.element.specs.Cells.{put, cells};
 ghost use Rattle.picks.specs.Indices.{index_count, indices_of, IndexBelow, IndexAbove, first_outside, first_outside2, place_of};
 ghost use Rattle.picks.specs.Picks.{picked, crossed, Guarded};
-ghost use Rattle.picks.specs.Stores.{stored, values_of};
+ghost use Rattle.element.specs.Operands.{along, start_of};
+ghost use Rattle.picks.specs.Stores.{stored};
 ghost use Rattle.meaning.specs.Values.{null_of};
 ghost use Rattle.meaning.specs.Works.{changed, Chosen};
 ghost use Rattle.tables.specs.Lent.{held, Kept, Reach};
 
 use crate::lent::Tables;
 use element::Element;
-use picks::{Beside, Index, Outside, Values, Within};
+use element::operands::Operand;
+use picks::{Beside, Index, Outside, Within};
 use types::Kind;
 
 /// Stores the element in the cell `from` at row i and column j of the r × s matrix from `to` on, in one table.
@@ -25,7 +27,7 @@ fn store_cell<E: Element>(
 ) -> Result<(), Outside>
     requires some { from < length table.old }
     requires within { to + r * s ≤ length table.old }
-    ensures { Guarded (first_outside2 r s (i ∷ []) (j ∷ [])) table.old (put table.old to (slice_set (cells table.old to (r * s)) (place_of i * s + place_of j) (slice_index_or table.old from E.Element.null))) result table.new }
+    ensures { Guarded (first_outside2 r s (i ∷ []) (j ∷ [])) table.old (put table.old to (slice_set (cells table.old to (r * s)) (place_of i * s + place_of j) (slice_index_or table.old from E.Element.NULL))) result table.new }
 {
     let value = table[from];
     picks::store_matrix(table, to, r, s, i, j, value)
@@ -114,13 +116,13 @@ impl Tables<'_> {
         to: usize,
         have: usize,
         index: Index,
-        values: Values,
+        values: Operand,
     ) -> Result<(), Outside>
-        requires above { to + have ≤ values.at }
+        requires above { to + have ≤ start_of values }
         requires indices { IndexAbove index (to + have) }
         requires seen { IndexBelow index (length self.old.integers.now) }
-        requires within { Reach (values.at + index_count index) (held self.old) }
-        ensures value { Chosen (first_outside 1 have (indices_of index self.old.integers.now)) (held self.old) (changed kind (held self.old) to (λ k T. stored (cells T to have) (indices_of index self.old.integers.now) (values_of (null_of k) T values (index_count index)))) result (held self.new) }
+        requires within { Reach (start_of values + index_count index) (held self.old) }
+        ensures value { Chosen (first_outside 1 have (indices_of index self.old.integers.now)) (held self.old) (changed kind (held self.old) to (λ k T. stored (cells T to have) (indices_of index self.old.integers.now) (along (null_of k) T values (index_count index)))) result (held self.new) }
         ensures lent { Kept self.old self.new }
     {
         let booleans = &mut *self.booleans;

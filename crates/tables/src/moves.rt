@@ -15,7 +15,7 @@ use types::Kind;
 fn spread_cell<E: Element>(table: &mut [E], from: usize, to: usize, n: usize)
     requires some { from < length table.old }
     requires within { to + n ≤ length table.old }
-    ensures { table.new ≡ put table.old to (replicate n (slice_index_or table.old from E.Element.null)) }
+    ensures { table.new ≡ put table.old to (replicate n (slice_index_or table.old from E.Element.NULL)) }
 {
     let value = table[from];
     cells::spread(table, value, to, n);
@@ -24,15 +24,15 @@ fn spread_cell<E: Element>(table: &mut [E], from: usize, to: usize, n: usize)
 /// Writes the null into n cells of one table.
 fn spread_null<E: Element>(table: &mut [E], to: usize, n: usize)
     requires within { to + n ≤ length table.old }
-    ensures { table.new ≡ put table.old to (replicate n E.Element.null) }
+    ensures { table.new ≡ put table.old to (replicate n E.Element.NULL) }
 {
-    cells::spread(table, E::null_element(), to, n);
+    cells::spread(table, E::NULL, to, n);
 }
 
 impl Tables<'_> {
     /// Writes the n cells from `from` on as they are.
     pub fn copy(&mut self, kind: Kind, from: usize, n: usize, to: usize)
-        requires below { from + n ≤ to }
+        requires source { Reach (from + n) (held self.old) }
         requires within { Reach (to + n) (held self.old) }
         ensures value { held self.new ≡ changed kind (held self.old) to (λ k T. cells T from n) }
         ensures lent { Kept self.old self.new }
@@ -73,7 +73,7 @@ impl Tables<'_> {
 
     /// Writes the n cells from `from` on backward.
     pub fn reverse(&mut self, kind: Kind, from: usize, n: usize, to: usize)
-        requires below { from + n ≤ to }
+        requires source { Reach (from + n) (held self.old) }
         requires within { Reach (to + n) (held self.old) }
         ensures value { held self.new ≡ changed kind (held self.old) to (λ k T. reverse (cells T from n)) }
         ensures lent { Kept self.old self.new }

@@ -6,6 +6,8 @@ ghost use Rattle.meaning.specs.States.{table_of, with_table};
 ghost use Rattle.meaning.specs.Texts.{shape_text};
 ghost use Rattle.meaning.specs.Values.{layout_of, fixed};
 ghost use Rattle.print.specs.Texts.{Printed};
+ghost use Rattle.std.specs.Result.{result_unwrap_or};
+ghost use Rattle.source.specs.States.{state_of};
 ghost use Rattle.source.specs.Taking.{gone, counted};
 ghost use Rattle.tables.specs.Shapes.{shaped_text};
 ghost use Rattle.tables.specs.Lent.{held, Kept, Reach};
@@ -13,7 +15,7 @@ ghost use Rattle.tables.specs.Lent.{held, Kept, Reach};
 use crate::lent::Tables;
 use element::Element;
 use print::{print_matrix, print_scalar, print_vector};
-use source::{Source, StreamState, read_boolean, read_character, read_integer};
+use source::{Readable, Source, StreamState};
 use types::{Kind, Shape};
 
 /// Prints the value of this shape from `at` on of one table into the output from `printed` on, and says where its text ends.
@@ -26,12 +28,12 @@ fn print_cells<E: Element>(
     printed: usize,
     table: &[E],
 ) -> Option<usize>
-    requires fixed { fixed (layout_of E.Element.kind_of shape r s) ≡ true }
+    requires fixed { fixed (layout_of E.Element.KIND shape r s) ≡ true }
     requires rows { r ≤ 1024 }
     requires columns { s ≤ 1024 }
     requires place { printed ≤ length output.old }
     requires within { at + r * s ≤ length table.now }
-    ensures { Printed (shaped_text shape E.Element.text E.Element.null r s (cells table.now at (r * s))) output.old printed result output.new }
+    ensures { Printed (shaped_text shape E.Element.text E.Element.NULL r s (cells table.now at (r * s))) output.old printed result output.new }
 {
     match shape {
         Shape::Scalar => print_scalar(table[at], output, printed),
@@ -39,6 +41,25 @@ fn print_cells<E: Element>(
         Shape::Matrix => print_matrix(table, at, r, s, output, printed),
         Shape::Interval => Some(printed),
     }
+}
+
+/// Reads a value from the source into the cell `to` of one table, the null where none is read, and says how the read went.
+fn read_cell<E: Element + Readable, S: Source>(
+    source: &mut S,
+    taken: &mut u32,
+    table: &mut [E],
+    to: usize,
+) -> StreamState
+    requires { to < length table.old }
+    ensures written { table.new ≡ put table.old to (result_unwrap_or (E.Readable.read_of (S.waiting source.old)) E.Element.NULL ∷ []) }
+    ensures told { result ≡ state_of (E.Readable.read_of (S.waiting source.old)) }
+    ensures waits { S.waiting source.new ≡ E.Readable.left_by (S.waiting source.old) }
+    ensures took { taken.new ≡ counted taken.old (gone (S.waiting source.old) (S.waiting source.new)) }
+{
+    let read = E::read(source, taken);
+    let state = StreamState::from(&read);
+    table[to] = read.unwrap_or(E::NULL);
+    state
 }
 
 impl Tables<'_> {
@@ -83,21 +104,9 @@ impl Tables<'_> {
         ensures lent { Kept self.old self.new }
     {
         match kind {
-            Kind::Boolean => {
-                let got = read_boolean(source, taken);
-                self.booleans[to] = got.value;
-                got.state
-            }
-            Kind::Character => {
-                let got = read_character(source, taken);
-                self.characters[to] = got.value;
-                got.state
-            }
-            Kind::Integer => {
-                let got = read_integer(source, taken);
-                self.integers[to] = got.value;
-                got.state
-            }
+            Kind::Boolean => read_cell(source, taken, self.booleans, to),
+            Kind::Character => read_cell(source, taken, self.characters, to),
+            Kind::Integer => read_cell(source, taken, self.integers, to),
         }
     }
 }

@@ -27,7 +27,7 @@ spread-requires c =
     let m = c.args.frame.now.ample in
     let f = c.start_of-from.ensures in
     let t = c.start_of-to.ensures in
-    let s = sym c.if-same-2.ensures in
+    let s = sym c.if-is-2.ensures in
     let o = one_cell p.width a.a p.row (p.row * p.width + p.width) a.y c.requires.before c.requires.begun.value s (omega arith) in
     record {
       from = reach a.frame.now.tables m (omega (arith, o, f));
@@ -43,8 +43,8 @@ unfold_padded-requires c =
     let m = c.args.frame.now.ample in
     let f = c.start_of-from.ensures in
     let t = c.start_of-to.ensures in
-    let e = sym c.if-same.ensures in
-    let s = sym c.if-same-2.ensures in
+    let e = sym c.if-is.ensures in
+    let s = sym c.if-is-2.ensures in
     let o = next_cell p.width a.a p.row (length a.frame.now.tables.integers.now) a.y c.requires.before c.requires.begun.value (taken_list a.w a.y c.requires.begun.taken e) m.integers in
     record {
       bounds = omega (arith, o, f);
@@ -52,25 +52,25 @@ unfold_padded-requires c =
       within = omega (arith, n, t, m.integers);
     }
 
-pub returns-then-same-clause-value : goal.returns-then-same-clause-value
-returns-then-same-clause-value c =
+pub returns-then-is-clause-value : goal.returns-then-is-clause-value
+returns-then-is-clause-value c =
     let a = c.args in
     let p = a.frame.now.place in
     let t = held a.frame.now.tables in
     let u = held c.resize_matrix.new.self in
-    begun_resize p.width t a.w a.a p.row a.y a.form c.requires.begun c.start_of-from.result c.start_of-to.result c.start_of-from.ensures c.start_of-to.ensures u (sym c.if-same.ensures) c.resize_matrix.ensures.value
+    begun_resize p.width t a.w a.a p.row a.y a.form c.requires.begun c.start_of-from.result c.start_of-to.result c.start_of-from.ensures c.start_of-to.ensures u (sym c.if-is.ensures) c.resize_matrix.ensures.value
 
-pub returns-then-same-2-clause-value : goal.returns-then-same-2-clause-value
-returns-then-same-2-clause-value c =
+pub returns-then-is-2-clause-value : goal.returns-then-is-2-clause-value
+returns-then-is-2-clause-value c =
     let a = c.args in
     let p = a.frame.now.place in
     let t = held a.frame.now.tables in
     let u = held c.spread.new.self in
-    begun_spread p.width t a.w a.a p.row a.y a.form c.requires.begun c.start_of-from.result c.start_of-to.result c.start_of-from.ensures c.start_of-to.ensures u (sym c.if-same.ensures) (sym c.if-same-2.ensures) c.spread.ensures.value
+    begun_spread p.width t a.w a.a p.row a.y a.form c.requires.begun c.start_of-from.result c.start_of-to.result c.start_of-from.ensures c.start_of-to.ensures u (sym c.if-is.ensures) (sym c.if-is-2.ensures) c.spread.ensures.value
 
-pub returns-else-same-2-clause-value : goal.returns-else-same-2-clause-value
-returns-else-same-2-clause-value c =
+pub returns-else-is-2-clause-value : goal.returns-else-is-2-clause-value
+returns-else-is-2-clause-value c =
     let a = c.args in
     let p = a.frame.now.place in
     let t = held a.frame.now.tables in
-    begun_unfold p.width t a.w a.a p.row a.y a.form c.requires.begun c.start_of-from.result c.start_of-to.result c.start_of-from.ensures c.start_of-to.ensures (sym c.if-same.ensures) (sym c.if-same-2.ensures) c.unfold_padded.new.integers c.unfold_padded.ensures
+    begun_unfold p.width t a.w a.a p.row a.y a.form c.requires.begun c.start_of-from.result c.start_of-to.result c.start_of-from.ensures c.start_of-to.ensures (sym c.if-is.ensures) (sym c.if-is-2.ensures) c.unfold_padded.new.integers c.unfold_padded.ensures

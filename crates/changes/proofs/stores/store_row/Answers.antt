@@ -51,7 +51,7 @@ store-stored-requires c =
     let g = c.in_ok-form.ensures.is in
     let to = c.start_of-to in
     let ix = c.list_at-index in
-    let vs = c.values_at-values in
+    let vs = c.cells_of-values in
     record {
       above = store_above p t a.v a.b a.c x y z ly form g lx lz to.result to.ensures ix.result ix.ensures vs.result vs.ensures c.requires.index c.requires.value c.requires.under_index c.requires.under_value;
       indices = store_under p t a.v a.b a.c x y z ly form g lx lz to.result to.ensures ix.result ix.ensures vs.result vs.ensures c.requires.index c.requires.value c.requires.under_index c.requires.under_value;
@@ -75,7 +75,7 @@ returns c =
     let g = c.in_ok-form.ensures.is in
     let to = c.start_of-to in
     let ix = c.list_at-index in
-    let vs = c.values_at-values in
+    let vs = c.cells_of-values in
     let s = c.store-stored.result in
     record {
       filled = filled_3 p a.v a.frame.now.slips.now t u c.answer.result a.v a.b a.c stored_at x y z c.in_ok-x.ensures.is c.in_ok-y.ensures.is c.in_ok-z.ensures.is

@@ -1,7 +1,7 @@
 use Rattle.std.proofs.Common.{List, [], map, ℤ, refl, ap, arith}
 use Rattle.types.specs.declared.kinds.Kind.TheVariants.{Integer}
 use Rattle.arithmetic.specs.Exact.{negated}
-use Rattle.arithmetic.specs.declared.operators.Prefix.TheVariants.{Minus}
+use Rattle.instruction.specs.declared.instructions.Prefix.TheVariants.{Minus}
 use Rattle.elementwise.specs.Results.{collected}
 use Rattle.meaning.specs.Expressions.{prefixed}
 use Rattle.meaning.specs.States.{value_from}

@@ -1,7 +1,7 @@
 use Rattle.std.proofs.Common.{Bool, not, List, [], map, Ok, Result, refl, ap, arith}
 use Rattle.types.specs.declared.kinds.Kind.TheVariants.{Boolean}
 use Rattle.arithmetic.specs.declared.faults.ElementFault.{ElementFault}
-use Rattle.arithmetic.specs.declared.operators.Prefix.TheVariants.{Not}
+use Rattle.instruction.specs.declared.instructions.Prefix.TheVariants.{Not}
 use Rattle.meaning.specs.Expressions.{prefixed}
 use Rattle.meaning.specs.States.{value_from}
 use Rattle.meaning.proofs.Shells.{refused_1, made_1}

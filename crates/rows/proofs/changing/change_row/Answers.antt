@@ -13,7 +13,7 @@ pub returns-in-Declare : goal.returns-in-Declare
 returns-in-Declare g c =
     let here = state_of c.args.taken.now c.args.stream.now c.args.frame.now.slips.now (held c.args.frame.now.tables) (g.S.Source.waiting c.args.source.now) c.args.output.now c.args.printed.now in
     record {
-      does = by_change c.args.frame.now.place c.args.head c.args.change (change.Declare c.in-Declare.kind c.in-Declare.shape c.in-Declare.r c.in-Declare.s c.in-Declare.start) here _ c.in-Declare.is (c.declare.ensures.value here);
+      does = by_change c.args.frame.now.place c.args.head c.args.change (change.Declare c.in-Declare.written c.in-Declare.start) here _ c.in-Declare.is (c.declare.ensures.value here);
       room = c.requires.room;
       lasts = search rules;
     }

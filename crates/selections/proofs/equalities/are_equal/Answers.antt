@@ -16,8 +16,8 @@ equal_throughout-requires c =
       within = reach c.args.frame.now.tables c.args.frame.now.ample (omega (arith, l, el, few));
     }
 
-pub equal_throughout-requires-then-same-2 : goal.equal_throughout-requires-then-same-2
-equal_throughout-requires-then-same-2 c =
+pub equal_throughout-requires-then-is-2 : goal.equal_throughout-requires-then-is-2
+equal_throughout-requires-then-is-2 c =
     let p = c.args.frame.now.place in
     let l = under_all p.width c.args.a p.row c.requires.left in
     let r = under_all p.width c.args.b p.row c.requires.right in

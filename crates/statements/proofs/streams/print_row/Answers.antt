@@ -5,13 +5,13 @@ use Rattle.tables.proofs.Reaching.{reach}
 use Rattle.tables.specs.Lent.{held}
 use Rattle.statements.proofs.streams.print_row.Goals as goal
 
-pub returns-then-same : goal.returns-then-same
-returns-then-same c =
+pub returns-then-is : goal.returns-then-is
+returns-then-is c =
     let g = c.args in
     record {
       row = λ s.
           print_stuck g.frame.now.place s g.frame.now.slips.now (held g.frame.now.tables) g.a c.in_ok-x.x c.in_ok-x.ensures.is g.output.now g.printed.now
-          c.fault.result c.fault.ensures c.if-same.ensures;
+          c.fault.result c.fault.ensures c.if-is.ensures;
       room = c.requires.room;
     }
 
@@ -38,7 +38,7 @@ returns-in-Some c =
     record {
       row = λ s.
           print_some g.frame.now.place s g.frame.now.slips.now (held g.frame.now.tables) g.a c.in_ok-x.x c.in_ok-x.ensures.is g.output.now g.printed.now
-          c.if-same.ensures c.start_of-at.result c.start_of-at.ensures c.print.new.output c.in-Some.end done;
+          c.if-is.ensures c.start_of-at.result c.start_of-at.ensures c.print.new.output c.in-Some.end done;
       room = omega (arith, done.0, done.1, c.print.auto.output);
     }
 
@@ -48,6 +48,6 @@ returns-in-None c =
     record {
       row = λ s.
           print_none g.frame.now.place s g.frame.now.slips.now (held g.frame.now.tables) g.a c.in_ok-x.x c.in_ok-x.ensures.is g.output.now g.printed.now
-          c.if-same.ensures c.start_of-at.result c.start_of-at.ensures c.print.new.output c.in-None.ensures;
+          c.if-is.ensures c.start_of-at.result c.start_of-at.ensures c.print.new.output c.in-None.ensures;
       room = omega (arith, c.requires.room, c.print.auto.output);
     }

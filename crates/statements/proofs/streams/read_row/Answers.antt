@@ -6,16 +6,16 @@ use Rattle.tables.specs.Lent.{held}
 use Rattle.tables.proofs.Reaching.{reach}
 use Rattle.statements.proofs.streams.read_row.Goals as goal
 
-pub returns-then-not-same-clause-value : goal.returns-then-not-same-clause-value
-returns-then-not-same-clause-value g c s =
+pub returns-then-not-is-clause-value : goal.returns-then-not-is-clause-value
+returns-then-not-is-clause-value g c s =
     let a = c.args in
     read_stuck a.frame.now.place s a.frame.now.slips.now (held a.frame.now.tables) a.i c.in_ok-x.x c.in_ok-x.ensures.is a.taken.now a.stream.now (g.S.Source.waiting a.source.now)
-    c.fault.result c.fault.ensures c.if-not-same.ensures
+    c.fault.result c.fault.ensures c.if-not-is.ensures
 
 pub read-requires : goal.read-requires
 read-requires g c =
     let W = c.args.frame.now.place.width in
-    let wide = scalar_wide W c.in_ok-x.x c.in_ok-x.ensures.lawful c.if-not-same.ensures in
+    let wide = scalar_wide W c.in_ok-x.x c.in_ok-x.ensures.lawful c.if-not-is.ensures in
     let u = under_all W c.args.i c.args.frame.now.place.row c.requires.before in
     let start = c.start_of-to.ensures in
     record {
@@ -26,5 +26,5 @@ pub returns-clause-value : goal.returns-clause-value
 returns-clause-value g c s =
     let a = c.args in
     read_value a.frame.now.place s a.frame.now.slips.now (held a.frame.now.tables) a.i c.in_ok-x.x c.in_ok-x.ensures.is a.taken.now a.stream.now (g.S.Source.waiting a.source.now)
-    c.if-not-same.ensures c.start_of-to.result c.start_of-to.ensures
+    c.if-not-is.ensures c.start_of-to.result c.start_of-to.ensures
     c.read.new.taken c.read.result (held c.read.new.self) (g.S.Source.waiting c.read.new.source) c.read.ensures.written c.read.ensures.told c.read.ensures.waits c.read.ensures.took
