@@ -23,6 +23,7 @@ impl<X: Copy> CastTo<X> for X {
     }
 }
 
+// An impl for each pair of kinds: one over `From<bool>` would overlap the cast of a kind to its own.
 impl CastTo<i32> for bool {
     ghost casts = { one_or_zero };
 

@@ -60,7 +60,7 @@ impl fmt::Display for Refusal {
                     "not laid out as a note of at most 4096 bytes, 1 to 512 rows and the trailer"
                 )
             }
-            Refusal::BadHead => { write!(f, "{UnlawfulHead}") }
+            Refusal::BadHead => { write!(f, "{}", UnlawfulHead) }
             Refusal::NoRoom => write!(f, "the memory brought is too short"),
         }
     }

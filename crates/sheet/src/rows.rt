@@ -19,6 +19,7 @@ pub fn read_rows(room: Room, body: &[u8]) -> Vec<Row>
 {
     let Room { mut rows } = room;
     let (parts, _) = body.as_chunks();
+    // Pushed one by one, since `extend` may allocate.
     for part in parts {
         rows.push_reserved(read_row(part));
     }

@@ -12,10 +12,7 @@ const FILE: &str = "sheet.gps";
 
 fn print_rows(rt: &HostRuntime, rows: &[Row], lines: &[Line]) -> anyhow::Result<()> {
     for (number, row) in rows.iter().enumerate() {
-        let typing = match lines.get(number) {
-            Some(line) => line.typing,
-            None => None,
-        };
+        let typing = lines.get(number).and_then(|line| line.typing);
         rt.println(RowLine {
             number,
             row: *row,
@@ -47,33 +44,31 @@ fn list_rows(rt: &HostRuntime, draft: Draft) -> anyhow::Result<Draft> {
         }
         Err(refused) => {
             print_rows(rt, refused.draft.rows(), refused.room.lines())?;
-            let number = refused.refusal.number();
             let refusal = refused.refusal;
-            let row = refused.row;
-            println!(rt; "row {row}: refused {number}: {refusal}")?;
+            println!(rt;
+                "row {}: refused {}: {refusal}",
+                refused.row,
+                u16::from(refusal)
+            )?;
             Ok(refused.draft)
         }
     }
 }
 
 fn run(rt: &HostRuntime) -> anyhow::Result<()> {
-    let Ok(file) = fs::read(rt, FILE) else {
-        return Err(anyhow!("the file sheet.gps of this folder cannot be read"));
-    };
+    let file = fs::read(rt, FILE).map_err(|_| anyhow!(
+        "the file sheet.gps of this folder cannot be read"
+    ))?;
     let room = sheet::Room::new(rt.alloc(), MAX_ROWS)?;
     match load(file.as_slice(), room) {
         Ok((draft, note)) => {
-            let text = Escaped(note);
-            let head = HeadWords(draft.head());
-            println!(rt; "note {text}")?;
-            println!(rt; "{head}")?;
+            println!(rt; "note {}", Escaped(note))?;
+            rt.println(HeadWords(draft.head()))?;
             let draft = list_rows(rt, draft)?;
             save_again(rt, file.as_slice(), note, &draft)
         }
         Err(refused) => {
-            let number = refused.refusal.number();
-            let refusal = refused.refusal;
-            println!(rt; "refused {number}: {refusal}")?;
+            println!(rt; "refused {}: {refused}", u16::from(refused.refusal))?;
             Ok(())
         }
     }

@@ -63,20 +63,10 @@ fn write_template<W: fmt::Write>(f: &mut fmt::Formatter<W>, row: &Row, text: &st
 }
 
 fn write_numbers<W: fmt::Write>(f: &mut fmt::Formatter<W>, row: &Row) -> fmt::Result {
-    let Row {
-        code,
-        line: _,
-        a,
-        b,
-        c,
-        d,
-        r,
-        s,
-        n,
-    } = *row;
     write!(
         f,
-        "no known row: code {code}, a {a}, b {b}, c {c}, d {d}, r {r}, s {s}, n {n}"
+        "no known row: code {}, a {}, b {}, c {}, d {}, r {}, s {}, n {}",
+        row.code, row.a, row.b, row.c, row.d, row.r, row.s, row.n,
     )
 }
 
