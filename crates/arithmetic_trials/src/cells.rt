@@ -9,6 +9,13 @@ use elementwise::prefix::{negate, not};
 use elementwise::products::{dot_product, matrix_product};
 use std::io;
 
+/// Prints a name and the fault that an element met.
+fn faulted(rt: &HostRuntime, name: &str, met: ElementFault) -> io::Result<()> {
+    let ElementFault { element, fault } = met;
+    let number = fault.number();
+    println!(rt; "{name}: fault {number} at element {element}, {fault}")
+}
+
 /// Prints a name and the cells that were written, or the fault.
 fn written(
     rt: &HostRuntime,
@@ -18,10 +25,7 @@ fn written(
 ) -> io::Result<()> {
     match r {
         Ok(()) => println!(rt; "{name}: {cells:?}"),
-        Err(ElementFault { element, fault }) => {
-            let number = fault.number();
-            println!(rt; "{name}: fault {number} at element {element}, {fault}")
-        }
+        Err(met) => faulted(rt, name, met),
     }
 }
 
@@ -92,10 +96,7 @@ pub(crate) fn booleans(rt: &HostRuntime) -> io::Result<()> {
 fn dot(rt: &HostRuntime, name: &str, r: Result<i32, ElementFault>) -> io::Result<()> {
     match r {
         Ok(z) => println!(rt; "{name} = {z}"),
-        Err(ElementFault { element, fault }) => {
-            let number = fault.number();
-            println!(rt; "{name}: fault {number} at element {element}, {fault}")
-        }
+        Err(met) => faulted(rt, name, met),
     }
 }
 

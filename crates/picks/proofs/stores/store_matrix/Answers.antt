@@ -11,6 +11,13 @@ overflow_add-value g c =
     let h = cell_placed c.args.r c.args.s c.in_ok-row.row c.in_ok-column.column c.args.i c.args.j _ _ _ _ (simp to_z-of_z at c.place_among.ensures) c.in_ok-row.ensures.value (simp to_z-of_z at c.place_among-2.ensures) c.in_ok-column.ensures.value in
     search rules
 
+pub overflow_add-value-2 : goal.overflow_add-value-2
+overflow_add-value-2 g c =
+    let fits-i = c.ranges.i in
+    let fits-j = c.ranges.j in
+    let h = cell_placed c.args.r c.args.s c.in_ok-row.row c.in_ok-column.column c.args.i c.args.j _ _ _ _ (simp to_z-of_z at c.place_among.ensures) c.in_ok-row.ensures.value (simp to_z-of_z at c.place_among-2.ensures) c.in_ok-column.ensures.value in
+    search rules
+
 pub offset_bounds-table-to : goal.offset_bounds-table-to
 offset_bounds-table-to g c =
     let fits-i = c.ranges.i in
