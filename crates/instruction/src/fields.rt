@@ -1,6 +1,6 @@
 //! Which fields a code names: every other field but the line is 0.
 ghost use Rattle.std.specs.Prelude.{◌≡◌};
-ghost use Rattle.instruction.specs.Fields.{fields_of, is_zero, plain};
+ghost use Rattle.instruction.specs.Fields.{fields_of, plain};
 
 use sheet::Row;
 
@@ -37,12 +37,6 @@ pub fn fields_of(code: u16) -> Fields
     }
 }
 
-fn is_zero(n: i32) -> bool
-    ensures { result ≡ is_zero n }
-{
-    n == 0
-}
-
 /// Whether each other field of the row is 0.
 // No plainer: to compare with the row whose other fields are 0, each arm writes all nine, since a row with ghost fields takes no `..`.
 pub fn is_plain(fields: Fields, x: Row) -> bool
@@ -55,15 +49,15 @@ pub fn is_plain(fields: Fields, x: Row) -> bool
             && x.d == 0
             && x.r == 0
             && x.s == 0
-            && is_zero(x.n),
-        Fields::A => x.b == 0 && x.c == 0 && x.d == 0 && x.r == 0 && x.s == 0 && is_zero(x.n),
-        Fields::B => x.a == 0 && x.c == 0 && x.d == 0 && x.r == 0 && x.s == 0 && is_zero(x.n),
+            && x.n == 0,
+        Fields::A => x.b == 0 && x.c == 0 && x.d == 0 && x.r == 0 && x.s == 0 && x.n == 0,
+        Fields::B => x.a == 0 && x.c == 0 && x.d == 0 && x.r == 0 && x.s == 0 && x.n == 0,
         Fields::AN => x.b == 0 && x.c == 0 && x.d == 0 && x.r == 0 && x.s == 0,
-        Fields::AB => x.c == 0 && x.d == 0 && x.r == 0 && x.s == 0 && is_zero(x.n),
-        Fields::AC => x.b == 0 && x.d == 0 && x.r == 0 && x.s == 0 && is_zero(x.n),
-        Fields::ABC => x.d == 0 && x.r == 0 && x.s == 0 && is_zero(x.n),
-        Fields::ABCD => x.r == 0 && x.s == 0 && is_zero(x.n),
-        Fields::ARS => x.b == 0 && x.c == 0 && x.d == 0 && is_zero(x.n),
-        Fields::ABCRS => x.d == 0 && is_zero(x.n),
+        Fields::AB => x.c == 0 && x.d == 0 && x.r == 0 && x.s == 0 && x.n == 0,
+        Fields::AC => x.b == 0 && x.d == 0 && x.r == 0 && x.s == 0 && x.n == 0,
+        Fields::ABC => x.d == 0 && x.r == 0 && x.s == 0 && x.n == 0,
+        Fields::ABCD => x.r == 0 && x.s == 0 && x.n == 0,
+        Fields::ARS => x.b == 0 && x.c == 0 && x.d == 0 && x.n == 0,
+        Fields::ABCRS => x.d == 0 && x.n == 0,
     }
 }
