@@ -8,6 +8,7 @@ use Rattle.types.specs.Typings.{is, of, pairs, matches_spread}
 use Rattle.element.specs.Cells.{cells}
 use Rattle.element.proofs.Writes.{get_or_cells}
 use Rattle.element.specs.declared.operands.Operand.{Operand}
+use Rattle.element.specs.declared.operands.Operand.TheVariants as operand
 use Rattle.element.specs.Operands.{end_of, along as along_table}
 use Rattle.meaning.specs.declared.layouts.Layout.{Layout}
 use Rattle.meaning.specs.declared.places.Place.{Place}
@@ -20,12 +21,18 @@ use Rattle.meaning.proofs.Shells.{never, tests}
 use Rattle.meaning.proofs.Rows.{as_cells, scalar_one, lawful_fixed, lawful_small, under_all}
 use Rattle.expressions.specs.Pairs.{cells_of, pair_layout, pair_guard}
 
+-- n elements of an operand, by whether it is a scalar
+along_by : {X : Type 0} (s : Bool) (null : X) (T : List X) (at n : ℕ) → cond s (replicate n (get_or T at null)) (cells T at n) ≡ along_table null T (cond s (operand.Scalar at) (operand.Run at)) n
+along_by true null T at n = refl
+along_by false null T at n = refl
+
 -- n elements of an operand, as its cells have them
 pub along_cells : (W : ℕ) (t : Tables) (k : Kind) (a : ℕ) (x : Layout) (n : ℕ) → lawful W x ≡ true → of k (known x) ≡ true → (is Scalar (known x) ≡ false → area x ≡ n)
     → along k n (value_from W t a x) ≡ along_table (null_of k) (table_of k t) (cells_of W a x) n
 along_cells W t k a x n law kind same =
     ap (λ (xs : List (Cell k)). cond (is Scalar (known x)) (replicate n (get_or xs 0 (null_of k))) xs) (as_cells k x.kind t (a * W) (area x) kind)
     ∙ by (is Scalar (known x)) (λ s. let one = scalar_one x (lawful_fixed W x law) s in λ i. one.0 i * one.1 i) same
+    ∙ along_by (is Scalar (known x)) (null_of k) (table_of k t) (a * W) n
   where
     by : (s : Bool) → (s ≡ true → area x ≡ 1) → (s ≡ false → area x ≡ n)
         → cond s (replicate n (get_or (cells (table_of k t) (a * W) (area x)) 0 (null_of k))) (cells (table_of k t) (a * W) (area x)) ≡ cond s (replicate n (get_or (table_of k t) (a * W) (null_of k))) (cells (table_of k t) (a * W) n)
@@ -62,7 +69,7 @@ module _ (k l : Kind) (x y : Layout) (ruled : (of k (known x) && (of k (known y)
     right_cells = along_cells W t k b y (area (pair_layout l x y)) ly right_kind (right_area (is Scalar (known x)) (is Scalar (known y)) (eqb x.r y.r && eqb x.s y.s) x.r y.r x.s y.s (both x.r y.r x.s y.s) agree)
 
 -- ---- the cells of an operand lie before the row at work
-end_by : (s : Bool) (at n W end : ℕ) → (s ≡ true → 1 ≤ W) → n ≤ W → at + W ≤ end → cond s (at + 1) (at + n) ≤ end
+end_by : (s : Bool) (at n W end : ℕ) → (s ≡ true → 1 ≤ W) → n ≤ W → at + W ≤ end → end_of (cond s (operand.Scalar at) (operand.Run at)) n ≤ end
 end_by true at n W end one few h = let o = one refl in omega arith
 end_by false at n W end one few h = omega arith
 

@@ -77,9 +77,10 @@ module _ (p : Place) (t u : Tables) (q : Plan) (x : Layout) (h : Ok x ≡ guarde
 -- ---- the cells of an operand, and of the row
 pub record Room (t : Lent) (at to n : ℕ) : Type 0 where
   pub below : at + n ≤ to
+  pub source : Reach (at + n) (held t)
   pub within : Reach (to + n) (held t)
 
 pub room : (p : Place) (t : Lent) (a at to n : ℕ) → Holds p t → a < p.row → at ≡ a * p.width → to ≡ p.row * p.width → n ≤ p.width → Room t at to n
 room p t a at to n m lt ea et few =
     let u = under_all p.width a p.row lt in
-    record { below = omega arith; within = reach t m (omega arith) }
+    record { below = omega arith; source = reach t m (omega arith); within = reach t m (omega arith) }

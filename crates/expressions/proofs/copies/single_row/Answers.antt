@@ -6,4 +6,4 @@ pub copy-requires : goal.copy-requires
 copy-requires c =
     let p = c.args.frame.now.place in
     let m = room p c.args.frame.now.tables c.args.a c.start_of-at.result c.start_of-to.result c.area.result c.args.frame.now.ample c.requires.before c.start_of-at.ensures c.start_of-to.ensures c.area.ensures.small in
-    record { below = m.below; within = m.within }
+    record { source = m.source; within = m.within }
