@@ -11,7 +11,6 @@ use Rattle.element.specs.Cells.{cells}
 use Rattle.element.proofs.Writes.{get_or_cells}
 use Rattle.meaning.specs.declared.layouts.Layout.{Layout}
 use Rattle.meaning.specs.Values.{Cell, null_of, area, known, fixed, lawful, layout_of, elements_of}
-use Rattle.meaning.specs.Elements.{along}
 use Rattle.meaning.specs.States.{Tables, table_of, value_from}
 use Rattle.meaning.proofs.Shells.{never}
 use Rattle.meaning.proofs.Rows.{as_cells, scalar_one, lawful_fixed, lawful_small, under_all}
@@ -53,13 +52,3 @@ scalar_cell W t k a x law kind s =
     ap (λ (xs : List (Cell k)). get_or xs 0 (null_of k)) (as_cells k x.kind t (a * W) (area x) kind)
     ∙ get_or_cells (table_of k t) (a * W) (area x) 0 (null_of k) (omega (arith, n))
     ∙ ap (λ (m : ℕ). get_or (table_of k t) m (null_of k)) (add-zero (a * W))
-
--- n elements of an operand: its cells, or a scalar's n times
-pub along_cells : (W : ℕ) (t : Tables) (k : Kind) (a : ℕ) (x : Layout) (n : ℕ) → lawful W x ≡ true → of k (known x) ≡ true → (is Scalar (known x) ≡ false → area x ≡ n)
-    → along k n (value_from W t a x) ≡ cond (is Scalar (known x)) (replicate n (get_or (table_of k t) (a * W) (null_of k))) (cells (table_of k t) (a * W) n)
-along_cells W t k a x n law kind same = by (is Scalar (known x)) (scalar_cell W t k a x law kind) same
-  where
-    by : (s : Bool) → (s ≡ true → get_or (elements_of k (value_from W t a x)) 0 (null_of k) ≡ get_or (table_of k t) (a * W) (null_of k)) → (s ≡ false → area x ≡ n)
-        → cond s (replicate n (get_or (elements_of k (value_from W t a x)) 0 (null_of k))) (elements_of k (value_from W t a x)) ≡ cond s (replicate n (get_or (table_of k t) (a * W) (null_of k))) (cells (table_of k t) (a * W) n)
-    by true one other = ap (replicate n) (one refl)
-    by false one other = as_cells k x.kind t (a * W) (area x) kind ∙ ap (cells (table_of k t) (a * W)) (other refl)

@@ -12,7 +12,7 @@ use Rattle.picks.specs.declared.indices.Index.TheVariants as indices
 use Rattle.picks.specs.declared.indices.Outside.{Outside}
 use Rattle.element.specs.declared.operands.Operand.{Operand}
 use Rattle.picks.specs.Indices.{index_count, indices_of, IndexAbove, IndexBelow, first_outside}
-use Rattle.element.specs.Operands.{along}
+use Rattle.element.specs.Operands.{start_of, along as along_table}
 use Rattle.picks.specs.Stores.{stored}
 use Rattle.fault.specs.declared.faults.Fault.{Fault}
 use Rattle.meaning.specs.declared.layouts.Layout.{Layout}
@@ -31,7 +31,7 @@ use Rattle.expressions.proofs.Listing.{list_count, list_order, list_elements, li
 use Rattle.changes.specs.Stores.{stores, store_guard}
 use Rattle.expressions.specs.Pairs.{cells_of}
 use Rattle.changes.proofs.Filling.{refused, chosen}
-use Rattle.changes.proofs.Reading.{along_cells}
+use Rattle.expressions.proofs.Pairing.{along_cells, start_cells}
 
 -- the parts of the rule
 module _ (x y z : Layout) (h : stores x y z ≡ true) where
@@ -115,7 +115,7 @@ module _ (p : Place) (t : Tables) (v b c : ℕ) (x y z : Layout) (ly : lawful p.
           λ i. first_outside 1 (same i).s (l i)
 
       abbrev writes : (k : Kind) → List (Cell k) → List (Cell k)
-      writes k T = stored (cells T to form.s) (indices_of ix t.integers) (along (null_of k) T vs (index_count ix))
+      writes k T = stored (cells T to form.s) (indices_of ix t.integers) (along_table (null_of k) T vs (index_count ix))
 
       store_elements : plan.elements ≡ Ok (writes x.kind (table_of x.kind t))
       store_elements =
@@ -123,10 +123,10 @@ module _ (p : Place) (t : Tables) (v b c : ℕ) (x y z : Layout) (ly : lawful p.
           let T = table_of x.kind t in
           let l = list_elements p.width t b y ly (by_integers x y z ruled) (by_list x y z ruled) ∙ ap (λ (o : Index). indices_of o t.integers) (sym ei) in
           let n = list_count p.width t b y ly in
-          let w : along k (count (value_from p.width t b y)) (value_from p.width t c z) ≡ along (null_of k) T vs (index_count ix) =
+          let w : along k (count (value_from p.width t b y)) (value_from p.width t c z) ≡ along_table (null_of k) T vs (index_count ix) =
           ap (λ (m : ℕ). along k m (value_from p.width t c z)) n
           ∙ along_cells p.width t k c z (index_count list) lz (of_kind x y z ruled) all
-          ∙ (λ i. along (null_of k) T (sym ev i) (index_count (sym ei i))) in
+          ∙ (λ i. along_table (null_of k) T (sym ev i) (index_count (sym ei i))) in
           let at = sym et in
           λ i. Ok (stored (cells T (at i) (rows i)) (l i) (w i))
 
@@ -137,8 +137,8 @@ module _ (p : Place) (t : Tables) (v b c : ℕ) (x y z : Layout) (ly : lawful p.
         small : form.s ≤ p.width
         small = let s = lawful_small p.width x lx in omega (arith, s.columns, ap (λ (f : Layout). f.s) same)
 
-        pub store_above : to + form.s ≤ vs.at
-        store_above = let u = under_all p.width v c v-c in let s = small in omega (arith, u, s, et, ap (λ (o : Values). o.at) ev)
+        pub store_above : to + form.s ≤ start_of vs
+        store_above = let u = under_all p.width v c v-c in let s = small in omega (arith, u, s, et, ap start_of ev ∙ start_cells p.width c z)
 
         pub store_under : IndexAbove ix (to + form.s)
         store_under =
@@ -152,8 +152,8 @@ module _ (p : Place) (t : Tables) (v b c : ℕ) (x y z : Layout) (ly : lawful p.
               let u = under_all p.width b p.row b-row in
               subst (λ (o : Index). IndexBelow o len) (sym ei) (list_below p.width t b y ly len (lawful_small p.width y ly).columns (omega (arith, u)))
 
-          pub store_fits : vs.at + index_count ix ≤ len
+          pub store_fits : start_of vs + index_count ix ≤ len
           store_fits =
               let u = under_all p.width c p.row c-row in
               let f = few in
-              omega (arith, u, f, ap (λ (o : Values). o.at) ev, ap index_count ei)
+              omega (arith, u, f, ap start_of ev ∙ start_cells p.width c z, ap index_count ei)

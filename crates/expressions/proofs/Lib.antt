@@ -1,5 +1,5 @@
 mod Writing
-mod Pairing
+pub mod Pairing
 pub mod Listing
 mod Prefixing
 mod Multiplying

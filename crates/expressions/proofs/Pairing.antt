@@ -9,7 +9,7 @@ use Rattle.element.specs.Cells.{cells}
 use Rattle.element.proofs.Writes.{get_or_cells}
 use Rattle.element.specs.declared.operands.Operand.{Operand}
 use Rattle.element.specs.declared.operands.Operand.TheVariants as operand
-use Rattle.element.specs.Operands.{end_of, along as along_table}
+use Rattle.element.specs.Operands.{start_of, end_of, along as along_table}
 use Rattle.meaning.specs.declared.layouts.Layout.{Layout}
 use Rattle.meaning.specs.declared.places.Place.{Place}
 use Rattle.meaning.specs.Values.{Cell, null_of, area, known, lawful}
@@ -25,6 +25,14 @@ use Rattle.expressions.specs.Pairs.{cells_of, pair_layout, pair_guard}
 along_by : {X : Type 0} (s : Bool) (null : X) (T : List X) (at n : ℕ) → cond s (replicate n (get_or T at null)) (cells T at n) ≡ along_table null T (cond s (operand.Scalar at) (operand.Run at)) n
 along_by true null T at n = refl
 along_by false null T at n = refl
+
+-- the first of the cells is that of the row
+start_by : (s : Bool) (at : ℕ) → start_of (cond s (operand.Scalar at) (operand.Run at)) ≡ at
+start_by true at = refl
+start_by false at = refl
+
+pub start_cells : (W a : ℕ) (x : Layout) → start_of (cells_of W a x) ≡ a * W
+start_cells W a x = start_by (is Scalar (known x)) (a * W)
 
 -- n elements of an operand, as its cells have them
 pub along_cells : (W : ℕ) (t : Tables) (k : Kind) (a : ℕ) (x : Layout) (n : ℕ) → lawful W x ≡ true → of k (known x) ≡ true → (is Scalar (known x) ≡ false → area x ≡ n)
