@@ -1,16 +1,14 @@
 -- Stores by the layouts of their operands: their tests, the elements that they take, and what an index outside tells.
-use Rattle.std.specs.Prelude.{ℕ, ◌*◌, Bool, not, ◌&&◌, ◌||◌, List, ℤ, Some, Ok, Err, Result, ◌==◌}
+use Rattle.std.specs.Prelude.{ℕ, Bool, not, ◌&&◌, ◌||◌, List, ℤ, Some, Result, ◌==◌}
 use Rattle.types.specs.declared.kinds.Kind.TheVariants.{Integer}
 use Rattle.types.specs.declared.kinds.Shape.TheVariants.{Scalar, Vector, Matrix}
 use Rattle.types.specs.Typings.{is, of, alone, index}
-use Rattle.fault.specs.declared.causes.Cause.TheVariants.{Index}
 use Rattle.fault.specs.declared.faults.Fault.{Fault}
-use Rattle.picks.specs.declared.indices.Outside.{Outside}
 use Rattle.picks.specs.Indices.{index_count}
 use Rattle.meaning.specs.declared.layouts.Layout.{Layout}
 use Rattle.meaning.specs.declared.places.Place.{Place}
 use Rattle.meaning.specs.Values.{known}
-use Rattle.meaning.specs.Works.{fault_at, guards}
+use Rattle.meaning.specs.Works.{guards}
 use Rattle.expressions.specs.Lists.{list_at, orderly}
 
 -- z may be stored at the index y of the vector x

@@ -1,5 +1,5 @@
 -- What check shows of a sheet is what its rows ask: operands stand before, and a variable before the operands that it takes.
-use Rattle.std.proofs.Common.{Some, None, Option, ◌≡◌, ℕ, ◌<◌, ◌≤◌, true, List, [], ◌∷◌, length, ⊎_elim}
+use Rattle.std.proofs.Common.{Some, None, ◌≡◌, ℕ, ◌<◌, ◌≤◌, true, List, [], ◌∷◌, length, ⊎_elim}
 use Rattle.std.proofs.lemmas.Bool.{and_parts, cases_lt}
 use Rattle.types.specs.declared.typing.Typing.{Typing}
 use Rattle.instruction.specs.declared.instructions.Expression.{Expression as Make}

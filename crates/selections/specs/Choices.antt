@@ -1,18 +1,16 @@
 -- Values that indices choose elements of: the tests, the layout of what is chosen, and the answer.
-use Rattle.std.specs.Prelude.{true, cond, ◌&&◌, None, Ok, Err, Result}
+use Rattle.std.specs.Prelude.{true, cond, ◌&&◌, None, Result}
 use Rattle.types.specs.declared.kinds.Kind.{Kind}
 use Rattle.types.specs.declared.kinds.Shape.TheVariants.{Scalar, Vector, Matrix}
 use Rattle.types.specs.Typings.{is, index}
-use Rattle.fault.specs.declared.causes.Cause.TheVariants as cause
 use Rattle.fault.specs.declared.faults.Fault.{Fault}
 use Rattle.picks.specs.declared.indices.Index.{Index}
-use Rattle.picks.specs.declared.indices.Outside.{Outside}
 use Rattle.picks.specs.Indices.{index_count}
 use Rattle.meaning.specs.declared.layouts.Layout.{Layout}
 use Rattle.meaning.specs.declared.places.Place.{Place}
 use Rattle.meaning.specs.Values.{layout_of, known}
 use Rattle.meaning.specs.Expressions.{cross_shape}
-use Rattle.meaning.specs.Works.{fault_at, guards}
+use Rattle.meaning.specs.Works.{guards}
 use Rattle.expressions.specs.Lists.{orderly}
 
 -- ---- a vector and a list of indices

@@ -1,4 +1,3 @@
-use Rattle.std.proofs.Common.{length}
 use Rattle.expressions.proofs.Writing.{room}
 use Rattle.expressions.proofs.builds.cast_row.Goals as goal
 

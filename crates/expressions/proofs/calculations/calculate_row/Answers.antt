@@ -1,4 +1,4 @@
-use Rattle.std.proofs.Common.{List, [], ℤ, refl, arith}
+use Rattle.std.proofs.Common.{List, ℤ, refl, arith}
 use Rattle.types.specs.declared.kinds.Kind.TheVariants.{Integer}
 use Rattle.arithmetic.specs.Exact.{exact}
 use Rattle.elementwise.specs.Results.{collected, map2}

@@ -1,4 +1,4 @@
-use Rattle.std.proofs.Common.{Bool, List, [], Ok, Result, refl, arith}
+use Rattle.std.proofs.Common.{Bool, List, Ok, Result, refl, arith}
 use Rattle.types.specs.declared.kinds.Kind.TheVariants.{Boolean}
 use Rattle.arithmetic.specs.declared.faults.ElementFault.{ElementFault}
 use Rattle.arithmetic.specs.Truths.{decided}

@@ -1,4 +1,3 @@
-use Rattle.std.proofs.Common.{length}
 use Rattle.meaning.proofs.Rows.{within_small}
 use Rattle.expressions.proofs.Writing.{room}
 use Rattle.expressions.proofs.copies.variable_row.Goals as goal

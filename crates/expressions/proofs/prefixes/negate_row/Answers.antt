@@ -1,4 +1,4 @@
-use Rattle.std.proofs.Common.{List, [], map, ℤ, refl, ap, arith}
+use Rattle.std.proofs.Common.{List, map, ℤ, refl, ap, arith}
 use Rattle.types.specs.declared.kinds.Kind.TheVariants.{Integer}
 use Rattle.arithmetic.specs.Exact.{negated}
 use Rattle.instruction.specs.declared.instructions.Prefix.TheVariants.{Minus}

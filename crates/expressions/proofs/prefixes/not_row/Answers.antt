@@ -1,4 +1,4 @@
-use Rattle.std.proofs.Common.{Bool, not, List, [], map, Ok, Result, refl, ap, arith}
+use Rattle.std.proofs.Common.{Bool, not, List, map, Ok, Result, refl, ap, arith}
 use Rattle.types.specs.declared.kinds.Kind.TheVariants.{Boolean}
 use Rattle.arithmetic.specs.declared.faults.ElementFault.{ElementFault}
 use Rattle.instruction.specs.declared.instructions.Prefix.TheVariants.{Not}

@@ -1,4 +1,4 @@
-use Rattle.std.proofs.Common.{[], refl, arith}
+use Rattle.std.proofs.Common.{refl, arith}
 use Rattle.meaning.specs.Expressions.{multiplied}
 use Rattle.meaning.specs.States.{value_from}
 use Rattle.meaning.proofs.Shells.{refused_2, made_2}
