@@ -1,20 +1,20 @@
 //! Rows that assign: a variable takes a value of its own sizes.
-ghost use Rattle.std.specs.Prelude.{◌≡◌, ◌+◌, ◌*◌, ◌<◌, ◌≤◌, true, length, IfOk};
+ghost use Rattle.std.specs.Prelude.{◌≡◌, ◌*◌, ◌<◌, true, IfOk};
 ghost use Rattle.meaning.specs.Changes.{assigned};
 ghost use Rattle.meaning.specs.Expressions.{by2};
-ghost use Rattle.meaning.specs.States.{value_from, value_in};
+ghost use Rattle.meaning.specs.States.{value_from};
 ghost use Rattle.meaning.specs.Values.{lawful, within};
-ghost use Rattle.meaning.specs.Works.{Filled, changed};
+ghost use Rattle.meaning.specs.Works.{changed};
 ghost use Rattle.changes.specs.Assigns.{assign_guard, giving, Given};
-ghost use Rattle.tables.specs.Frames.{values, Fills, Lasts, Makes, Stays};
-ghost use Rattle.tables.specs.Lent.{held, Kept, Reach};
+ghost use Rattle.tables.specs.Frames.{values, Fills, Stays};
+ghost use Rattle.tables.specs.Lent.{held};
 
 use crate::moves::unfold_interval;
 use expressions::lists::{is_orderly, list_at};
 use fault::{Cause, Fault};
-use meaning::{Layout, Place, Slip};
+use meaning::Layout;
 use rules::statements::can_take;
-use tables::{Frame, Tables};
+use tables::Frame;
 use types::Shape;
 
 /// The layout of the variable x, where it may take the value y, which lies at row a.

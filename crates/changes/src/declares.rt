@@ -1,23 +1,23 @@
 //! Rows that declare a variable: nulls, or a value that fits its written type.
-ghost use Rattle.std.specs.Prelude.{◌≡◌, ◌+◌, ◌*◌, ◌<◌, ◌≤◌, true, length, IfOk, Some};
+ghost use Rattle.std.specs.Prelude.{◌≡◌, ◌*◌, ◌<◌, true, IfOk, Some};
 ghost use Rattle.types.specs.Types.{fits_in};
 ghost use Rattle.meaning.specs.Changes.{nulls, declared};
 ghost use Rattle.meaning.specs.Expressions.{by1, size_or};
 ghost use Rattle.meaning.specs.Plans.{outcome};
-ghost use Rattle.meaning.specs.States.{value_from, value_in};
+ghost use Rattle.meaning.specs.States.{value_from};
 ghost use Rattle.meaning.specs.Values.{lawful, within};
-ghost use Rattle.meaning.specs.Works.{Filled, guarded, changed};
+ghost use Rattle.meaning.specs.Works.{guarded, changed};
 ghost use Rattle.changes.specs.Declares.{fills, begins, layout_for, room_for, declare_guard, Begun, beginning};
-ghost use Rattle.tables.specs.Frames.{values, Fills, Lasts, Makes, Stays};
-ghost use Rattle.tables.specs.Lent.{held, Kept, Reach};
+ghost use Rattle.tables.specs.Frames.{values, Fills, Stays};
+ghost use Rattle.tables.specs.Lent.{held};
 
 use crate::moves::unfold_padded;
 use expressions::builds::size_or;
 use expressions::lists::{is_orderly, list_at};
 use fault::{Cause, Fault};
-use meaning::{Layout, Place, Slip};
+use meaning::{Layout, Place};
 use rules::statements::can_take;
-use tables::{Frame, Tables};
+use tables::Frame;
 use types::{Shape, Size, Typing};
 
 /// The layout of a variable of nulls, whose sizes are both written.

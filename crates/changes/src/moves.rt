@@ -1,16 +1,12 @@
 //! Cells moved to variables, which lie below what they take.
 ghost use Rattle.std.specs.Prelude.{◌≡◌, ◌+◌, ◌-◌, ◌<◌, ◌≤◌, ◌++◌, length, replicate, pos, slice_index_or};
-ghost use Rattle.element.specs.Cells.{put, cells};
+ghost use Rattle.element.specs.Cells.{put};
 ghost use Rattle.picks.specs.Indices.{spanned, between};
-ghost use Rattle.meaning.specs.Works.{changed};
-ghost use Rattle.tables.specs.Lent.{held, Holds, Kept, Reach};
 
 use element::Element;
 use element::cells::spread;
 use picks::indices::span;
 use picks::intervals::write_interval;
-use tables::Tables;
-use types::Kind;
 
 /// Writes the integers of the interval whose bounds are in the cell `from` and the next one.
 pub fn unfold_interval(integers: &mut [i32], from: usize, to: usize)

@@ -1,5 +1,5 @@
 //! Rows that store elements into a variable, at indices that count from 1.
-ghost use Rattle.std.specs.Prelude.{◌≡◌, ◌+◌, ◌*◌, ◌<◌, ◌≤◌, true, [], ◌∷◌, length, pos, IfOk, None, slice_index_or, slice_set};
+ghost use Rattle.std.specs.Prelude.{◌≡◌, ◌+◌, ◌*◌, ◌<◌, true, [], ◌∷◌, length, pos, IfOk, None, slice_index_or, slice_set};
 ghost use Rattle.element.specs.Cells.{cells};
 ghost use Rattle.picks.specs.Indices.{first_outside2, place_of};
 ghost use Rattle.meaning.specs.Changes.{stored_at, stored_at_two};
@@ -7,16 +7,16 @@ ghost use Rattle.meaning.specs.Expressions.{by3};
 ghost use Rattle.meaning.specs.Plans.{with};
 ghost use Rattle.meaning.specs.States.{value_in};
 ghost use Rattle.meaning.specs.Values.{null_of, lawful, within};
-ghost use Rattle.meaning.specs.Works.{Filled, guards, changed, Chosen};
+ghost use Rattle.meaning.specs.Works.{guards, changed, Chosen};
 ghost use Rattle.changes.specs.Stores.{stores, stores_two, store_guard};
-ghost use Rattle.tables.specs.Frames.{values, Fills, Lasts, Makes, Stays};
+ghost use Rattle.tables.specs.Frames.{values, Fills, Stays};
 ghost use Rattle.tables.specs.Lent.{held, Kept, Reach};
 
 use expressions::answers::answer;
 use expressions::lists::{is_orderly, list_at};
 use expressions::operands::cells_of;
 use fault::{Cause, Fault};
-use meaning::{Layout, Place, Slip};
+use meaning::{Layout, Place};
 use picks::Outside;
 use tables::{Frame, Tables};
 use types::{Kind, Shape};

@@ -1,11 +1,8 @@
 //! Expression rows by what they say.
-ghost use Rattle.std.specs.Prelude.{ℕ, ◌+◌, ◌*◌, ◌<◌, ◌≤◌, length};
-ghost use Rattle.meaning.specs.States.{value_in};
-ghost use Rattle.meaning.specs.Works.{Made};
+ghost use Rattle.std.specs.Prelude.{◌<◌};
 ghost use Rattle.laws.specs.Reads.{make_reads, AllUnder};
 ghost use Rattle.meaning.specs.Expressions.{evaluated};
-ghost use Rattle.tables.specs.Frames.{values, Fills, Lasts, Makes, Stays};
-ghost use Rattle.tables.specs.Lent.{held, Kept, Reach};
+ghost use Rattle.tables.specs.Frames.{values, Makes, Stays};
 
 use crate::operators::{infix_row, measure_row, prefix_row};
 use expressions::builds::{cast_row, resize_row, stack_row};
@@ -14,11 +11,11 @@ use expressions::copies::variable_row;
 use expressions::integers::{interval_row, state_row};
 use fault::Fault;
 use instruction::Expression;
-use meaning::{Layout, Place, Slip};
+use meaning::Layout;
 use selections::crossing::pick_two_row;
 use selections::indexing::pick_row;
 use source::StreamState;
-use tables::{Frame, Tables};
+use tables::Frame;
 
 /// Writes the value of an expression row into the row's own cells, and tells its layout; or tells the row's fault, and
 /// those cells are free.

@@ -1,10 +1,7 @@
 //! Rows with an operator, by the operator.
-ghost use Rattle.std.specs.Prelude.{ℕ, ◌+◌, ◌*◌, ◌<◌, ◌≤◌, length};
-ghost use Rattle.meaning.specs.States.{value_in};
-ghost use Rattle.meaning.specs.Works.{Made};
+ghost use Rattle.std.specs.Prelude.{◌<◌};
 ghost use Rattle.meaning.specs.Expressions.{by1, by2, prefixed, infixed, measured};
-ghost use Rattle.tables.specs.Frames.{values, Fills, Lasts, Makes, Stays};
-ghost use Rattle.tables.specs.Lent.{held, Kept, Reach};
+ghost use Rattle.tables.specs.Frames.{values, Makes, Stays};
 
 use expressions::builds::join_row;
 use expressions::calculations::{calculate_row, compare_row, decide_row};
@@ -14,10 +11,10 @@ use expressions::prefixes::{negate_row, not_row};
 use expressions::products::multiply_row;
 use fault::Fault;
 use instruction::{Infix, Measure, Prefix};
-use meaning::{Layout, Place, Slip};
+use meaning::Layout;
 use selections::equalities::equate_row;
 use selections::stepping::step_row;
-use tables::{Frame, Tables};
+use tables::Frame;
 
 /// A row with an operator before one value.
 pub fn prefix_row(frame: &mut Frame, op: Prefix, a: u16) -> Result<Layout, Fault>

@@ -1,7 +1,5 @@
 //! Rows that build a value of others: joined, stacked, resized, cast.
-ghost use Rattle.std.specs.Prelude.{◌≡◌, ℕ, ◌+◌, ◌*◌, ◌<◌, ◌≤◌, max, true, ◌&&◌, ◌||◌, length, IfOk, None};
-ghost use Rattle.meaning.specs.States.{value_in};
-ghost use Rattle.meaning.specs.Works.{Made};
+ghost use Rattle.std.specs.Prelude.{◌≡◌, ◌+◌, ◌<◌, max, true, ◌&&◌, ◌||◌, IfOk, None};
 ghost use Rattle.types.specs.declared.kinds.Shape.TheVariants.{Vector, Matrix};
 ghost use Rattle.types.specs.Types.{is_known, exactly as exact_size};
 ghost use Rattle.types.specs.Typings.{is, of, flat};
@@ -9,12 +7,11 @@ ghost use Rattle.rules.specs.Rules.{joins};
 ghost use Rattle.meaning.specs.Expressions.{by1, by2, joined, stack as stacked, size_or, resized_to, cast_to};
 ghost use Rattle.meaning.specs.Values.{known, layout_of, vector_of, within};
 ghost use Rattle.meaning.specs.Works.{guards};
-ghost use Rattle.tables.specs.Frames.{values, Fills, Lasts, Makes, Stays};
-ghost use Rattle.tables.specs.Lent.{held, Kept, Reach};
+ghost use Rattle.tables.specs.Frames.{values, Makes, Stays};
 
 use fault::Fault;
-use meaning::{Layout, Place, Slip};
-use tables::{Frame, Tables};
+use meaning::{Layout, Place};
+use tables::Frame;
 use types::{Kind, Shape, Size};
 
 fn is_row(x: Layout) -> bool

@@ -1,9 +1,7 @@
 //! Rows of arithmetic, orders and logic, element by element.
-ghost use Rattle.std.specs.Prelude.{◌≡◌, ℕ, ◌+◌, ◌*◌, ◌<◌, ◌≤◌, length};
+ghost use Rattle.std.specs.Prelude.{◌<◌};
 ghost use Rattle.meaning.specs.Expressions.{by2, calculated, compared, decided_by};
-ghost use Rattle.meaning.specs.States.{value_in};
-ghost use Rattle.expressions.specs.Parts.{InIntegers, InBooleans, OfIntegers};
-ghost use Rattle.tables.specs.Frames.{values, Fills, Lasts, Makes, Stays};
+ghost use Rattle.tables.specs.Frames.{values, Makes, Stays};
 
 use crate::operands::{cells_of, guard_pair};
 use arithmetic::faults::at_row;
@@ -11,7 +9,7 @@ use arithmetic::integers::Arithmetic;
 use arithmetic::truths::{Logic, Order};
 use elementwise::infix::{calculate, compare, decide};
 use fault::Fault;
-use meaning::{Layout, Place, Slip};
+use meaning::Layout;
 use tables::Frame;
 use types::Kind;
 

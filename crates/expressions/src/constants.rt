@@ -1,15 +1,14 @@
 //! Rows without an operand: literals and empty vectors.
-ghost use Rattle.std.specs.Prelude.{ℕ, ◌+◌, ◌*◌, ◌<◌, ◌≤◌, Bool, List, length, ℤ};
+ghost use Rattle.std.specs.Prelude.{◌<◌};
 ghost use Rattle.meaning.specs.Works.{Made};
 ghost use Rattle.meaning.specs.Expressions.{literal, empty};
 ghost use Rattle.meaning.specs.Plans.{outcome};
 ghost use Rattle.meaning.specs.States.{Tables as Held};
-ghost use Rattle.tables.specs.Frames.{values, Fills, Lasts, Makes, Stays};
-ghost use Rattle.tables.specs.Lent.{held, Kept, Reach};
+ghost use Rattle.tables.specs.Frames.{Makes, Stays};
 
 use fault::Fault;
 use meaning::{Layout, Place};
-use tables::{Frame, Tables};
+use tables::Frame;
 use types::Kind;
 
 /// A literal of a kind.

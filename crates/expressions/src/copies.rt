@@ -1,15 +1,12 @@
 //! Rows that copy a value: of a variable, backward, and a scalar as a vector.
-ghost use Rattle.std.specs.Prelude.{ℕ, ◌+◌, ◌*◌, ◌<◌, ◌≤◌, length};
-ghost use Rattle.meaning.specs.States.{value_in};
-ghost use Rattle.meaning.specs.Works.{Made};
+ghost use Rattle.std.specs.Prelude.{◌<◌};
 ghost use Rattle.instruction.specs.declared.instructions.Measure.TheVariants.{Reverse, Single};
 ghost use Rattle.meaning.specs.Expressions.{by1, copied, measured};
-ghost use Rattle.tables.specs.Frames.{values, Fills, Lasts, Makes, Stays};
-ghost use Rattle.tables.specs.Lent.{held, Kept, Reach};
+ghost use Rattle.tables.specs.Frames.{values, Makes, Stays};
 
 use fault::Fault;
-use meaning::{Layout, Place, Slip};
-use tables::{Frame, Tables};
+use meaning::Layout;
+use tables::Frame;
 use types::Shape;
 
 /// The value of a variable.

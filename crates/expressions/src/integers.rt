@@ -1,19 +1,17 @@
 //! Rows that make integers of what slips and single cells tell: intervals, sizes, the state of the stream.
-ghost use Rattle.std.specs.Prelude.{◌≡◌, ℕ, ◌+◌, ◌*◌, ◌<◌, ◌≤◌, Bool, true, ◌&&◌, [], ◌∷◌, length, pos, IfOk, None, int_le, slice_index_or};
+ghost use Rattle.std.specs.Prelude.{◌≡◌, ◌<◌, true, ◌&&◌, [], ◌∷◌, length, pos, IfOk, None, int_le, slice_index_or};
 ghost use Rattle.types.specs.declared.kinds.Kind.TheVariants.{Integer};
 ghost use Rattle.types.specs.Typings.{alone, is};
 ghost use Rattle.instruction.specs.declared.instructions.Measure.TheVariants.{Length, Rows, Columns};
 ghost use Rattle.element.specs.Cells.{put};
 ghost use Rattle.meaning.specs.Expressions.{by1, by2, interval, measured, streamed};
 ghost use Rattle.meaning.specs.Plans.{outcome};
-ghost use Rattle.meaning.specs.States.{value_in};
 ghost use Rattle.meaning.specs.Values.{known, scalar_of, within};
 ghost use Rattle.meaning.specs.Works.{guards};
-ghost use Rattle.expressions.specs.Parts.{InIntegers};
-ghost use Rattle.tables.specs.Frames.{values, Fills, Lasts, Makes, Stays};
+ghost use Rattle.tables.specs.Frames.{values, Makes, Stays};
 
 use fault::Fault;
-use meaning::{Layout, Place, Slip};
+use meaning::{Layout, Place};
 use source::StreamState;
 use tables::{Frame, Tables};
 use types::{Kind, Shape};

@@ -1,11 +1,10 @@
 //! Values as lists: a vector or a scalar by its cells, an interval by its bounds.
-ghost use Rattle.std.specs.Prelude.{◌≡◌, ℕ, ◌+◌, ◌*◌, ◌<◌, ◌≤◌, length};
+ghost use Rattle.std.specs.Prelude.{◌≡◌, ◌+◌, ◌*◌, ◌<◌, length};
 ghost use Rattle.expressions.specs.Lists.{list_at, orderly};
-ghost use Rattle.tables.specs.Frames.{values, Fills, Lasts, Makes, Stays};
 
-use meaning::{Layout, Place};
+use meaning::Layout;
 use picks::Index;
-use tables::{Frame, Tables};
+use tables::Frame;
 use types::Shape;
 
 /// The list that the value of layout x at row a stands for.

@@ -1,8 +1,8 @@
 //! Operands of rows that work element by element.
-ghost use Rattle.std.specs.Prelude.{◌≡◌, ℕ, ◌*◌, true, IfOk};
+ghost use Rattle.std.specs.Prelude.{◌≡◌, true, IfOk};
 ghost use Rattle.types.specs.declared.kinds.Shape.TheVariants.{Scalar};
 ghost use Rattle.types.specs.Typings.{is};
-ghost use Rattle.meaning.specs.Values.{known, within};
+ghost use Rattle.meaning.specs.Values.{within};
 ghost use Rattle.expressions.specs.Pairs.{cells_of, pair_layout, pair_guard};
 
 use element::operands::Operand;

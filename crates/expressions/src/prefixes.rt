@@ -1,18 +1,16 @@
 //! Rows with an operator before one value, element by element.
-ghost use Rattle.std.specs.Prelude.{◌≡◌, ℕ, ◌+◌, ◌*◌, ◌<◌, ◌≤◌, true, ◌&&◌, length, IfOk, None};
+ghost use Rattle.std.specs.Prelude.{◌≡◌, ◌<◌, true, ◌&&◌, IfOk, None};
 ghost use Rattle.types.specs.Typings.{of, flat};
 ghost use Rattle.instruction.specs.declared.instructions.Prefix.TheVariants.{Minus, Not};
 ghost use Rattle.meaning.specs.Expressions.{by1, prefixed};
-ghost use Rattle.meaning.specs.States.{value_in};
 ghost use Rattle.meaning.specs.Values.{layout_of, known, within};
 ghost use Rattle.meaning.specs.Works.{guards};
-ghost use Rattle.expressions.specs.Parts.{InIntegers, InBooleans};
-ghost use Rattle.tables.specs.Frames.{values, Fills, Lasts, Makes, Stays};
+ghost use Rattle.tables.specs.Frames.{values, Makes, Stays};
 
 use arithmetic::faults::at_row;
 use elementwise::prefix::{negate, not};
 use fault::Fault;
-use meaning::{Layout, Place, Slip};
+use meaning::{Layout, Place};
 use tables::Frame;
 use types::Kind;
 

@@ -1,21 +1,19 @@
 //! Rows that multiply vectors or matrices.
-ghost use Rattle.std.specs.Prelude.{◌≡◌, ℕ, ◌+◌, ◌*◌, ◌<◌, ◌≤◌, true, [], ◌∷◌, length, IfOk, if◌then◌else◌};
+ghost use Rattle.std.specs.Prelude.{◌≡◌, ◌+◌, ◌*◌, ◌<◌, ◌≤◌, true, [], ◌∷◌, length, IfOk, if◌then◌else◌};
 ghost use Rattle.types.specs.declared.kinds.Shape.TheVariants.{Vector};
 ghost use Rattle.types.specs.Typings.{is};
 ghost use Rattle.element.specs.Cells.{cells};
 ghost use Rattle.elementwise.specs.Products.{dot};
 ghost use Rattle.elementwise.specs.Results.{collected, Wrote};
 ghost use Rattle.meaning.specs.Expressions.{by2, multiplied};
-ghost use Rattle.meaning.specs.States.{value_in};
 ghost use Rattle.meaning.specs.Values.{area, known, within};
-ghost use Rattle.expressions.specs.Parts.{InIntegers};
 ghost use Rattle.expressions.specs.Products.{product_layout, multiplies, product_guard, product_cells};
-ghost use Rattle.tables.specs.Frames.{values, Fills, Lasts, Makes, Stays};
+ghost use Rattle.tables.specs.Frames.{values, Makes, Stays};
 
 use arithmetic::faults::{ElementFault, at_row};
 use elementwise::products::{dot_product, matrix_product};
 use fault::Fault;
-use meaning::{Layout, Place, Slip};
+use meaning::{Layout, Place};
 use tables::Frame;
 use types::{Kind, Shape};
 

@@ -3,17 +3,17 @@ ghost use Rattle.std.specs.Prelude.{◌≡◌, ◌<◌, ◌≤◌, length};
 ghost use Rattle.meaning.specs.Acts.{step};
 ghost use Rattle.statements.specs.Frames.{state_of};
 ghost use Rattle.rows.specs.Changing.{Reaches, changing};
-ghost use Rattle.tables.specs.Frames.{values, Fills, Lasts, Makes, Stays};
-ghost use Rattle.tables.specs.Lent.{held, Kept, Reach};
+ghost use Rattle.tables.specs.Frames.{Lasts};
+ghost use Rattle.tables.specs.Lent.{held};
 
 use crate::variables::{assign, declare, store, store_two};
 use fault::Fault;
 use instruction::Change;
-use meaning::{After, Place, Slip};
+use meaning::After;
 use source::{Source, StreamState};
 use statements::returns::return_row;
 use statements::streams::{print_row, read_row};
-use tables::{Frame, Tables};
+use tables::Frame;
 use types::Typing;
 
 /// A row that changes a variable, prints, reads or returns a value of the head's type.

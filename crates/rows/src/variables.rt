@@ -2,30 +2,26 @@
 ghost use Rattle.std.specs.Prelude.{◌≡◌, ◌<◌, true, length, IfOk};
 ghost use Rattle.types.specs.declared.typing.Typing.{Typing};
 ghost use Rattle.instruction.specs.declared.instructions.Change.TheVariants.{Assign, Store, StoreTwo};
-ghost use Rattle.meaning.specs.States.{value_in};
 ghost use Rattle.meaning.specs.Values.{within};
-ghost use Rattle.meaning.specs.Works.{Filled};
 ghost use Rattle.statements.specs.Frames.{InTables, settled};
 ghost use Rattle.rows.specs.Changing.{StartsAfter, start_outcome, beginning, changing, begun};
-ghost use Rattle.tables.specs.Frames.{values, Fills, Lasts, Makes, Stays};
-ghost use Rattle.tables.specs.Lent.{held, Kept, Reach};
+ghost use Rattle.tables.specs.Frames.{values, Fills, Lasts, Stays};
+ghost use Rattle.tables.specs.Lent.{held};
 
 use changes::assigns::assign_row;
 use changes::declares::{declare_nulls, declare_row};
 use changes::stores::{store_row, store_two_row};
 use fault::Fault;
 use meaning::{After, Layout, Place, Slip};
-use tables::{Frame, Tables};
+use tables::Frame;
 use types::Typing as Type;
 
 /// The row after a statement is next, unless the statement faulted.
 fn proceed(place: Place, res: Result<Layout, Fault>) -> Result<After, Fault>
     ensures { result ≡ settled place res }
 {
-    match res {
-        Ok(_) => Ok(After::Row(place.row as usize + 1)),
-        Err(fault) => Err(fault),
-    }
+    let _ = res?;
+    Ok(After::Row(place.row as usize + 1))
 }
 
 /// Notes in the row's slip what was declared.
@@ -34,9 +30,8 @@ fn note(place: Place, res: Result<Layout, Fault>, slips: &mut [Slip])
     requires within { IfOk res (λ f. within place.width f.r f.s ≡ true) }
     ensures { slips.new ≡ begun place slips.old res }
 {
-    match res {
-        Ok(layout) => slips[place.row as usize] = Slip::new(layout, 0),
-        Err(_) => {}
+    if let Ok(layout) = res {
+        slips[place.row as usize] = Slip::new(layout, 0);
     }
 }
 

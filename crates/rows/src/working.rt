@@ -6,19 +6,19 @@ ghost use Rattle.meaning.specs.Acts.{Acts};
 ghost use Rattle.laws.specs.Reads.{make_reads, AllUnder};
 ghost use Rattle.statements.specs.Frames.{state_of};
 ghost use Rattle.rows.specs.Working.{Expresses};
-ghost use Rattle.tables.specs.Frames.{values, Fills, Lasts, Makes, Stays};
-ghost use Rattle.tables.specs.Lent.{held, Kept, Reach};
+ghost use Rattle.tables.specs.Frames.{Lasts};
+ghost use Rattle.tables.specs.Lent.{held};
 
 use crate::changing::change_row;
 use checker::Line;
 use evaluation::evaluate;
 use fault::Fault;
 use instruction::{Expression, Instruction};
-use meaning::{After, Place, Slip};
+use meaning::After;
 use source::{Source, StreamState};
 use statements::control::control_row;
 use statements::settle::settle;
-use tables::{Frame, Tables};
+use tables::Frame;
 use types::Typing;
 
 /// What check passed at a row.

@@ -1,19 +1,16 @@
 //! Rows that pick elements of a matrix.
-ghost use Rattle.std.specs.Prelude.{◌≡◌, ℕ, ◌+◌, ◌*◌, ◌<◌, ◌≤◌, true, length, IfOk};
+ghost use Rattle.std.specs.Prelude.{◌≡◌, ◌<◌, true, IfOk};
 ghost use Rattle.meaning.specs.Expressions.{by3, cross_shape, pick_two};
-ghost use Rattle.meaning.specs.States.{value_in};
 ghost use Rattle.meaning.specs.Values.{within};
-ghost use Rattle.meaning.specs.Works.{Made};
 ghost use Rattle.selections.specs.Choices.{cross_guard, cross_layout};
-ghost use Rattle.tables.specs.Frames.{values, Fills, Lasts, Makes, Stays};
-ghost use Rattle.tables.specs.Lent.{held, Kept, Reach};
+ghost use Rattle.tables.specs.Frames.{values, Makes, Stays};
 
 use expressions::answers::answer;
 use expressions::lists::{is_orderly, list_at};
 use fault::Fault;
-use meaning::{Layout, Place, Slip};
+use meaning::{Layout, Place};
 use picks::Index;
-use tables::{Frame, Tables};
+use tables::Frame;
 use types::{Kind, Shape};
 
 /// The shape of what is picked: an index that is a scalar, of a row or of a column, drops a dimension.

@@ -1,18 +1,16 @@
 //! Rows that say whether two values are equal.
-ghost use Rattle.std.specs.Prelude.{◌≡◌, ℕ, ◌+◌, ◌*◌, ◌<◌, ◌≤◌, true, [], ◌∷◌, length};
+ghost use Rattle.std.specs.Prelude.{◌≡◌, ◌*◌, ◌<◌, true, [], ◌∷◌, length};
 ghost use Rattle.element.specs.Cells.{put};
 ghost use Rattle.meaning.specs.Expressions.{by2, equated, says as says_of};
-ghost use Rattle.meaning.specs.States.{value_in};
 ghost use Rattle.meaning.specs.Values.{lawful};
-ghost use Rattle.meaning.specs.Works.{Made};
 ghost use Rattle.selections.specs.Equalities.{equates, equate_guard, same_at};
-ghost use Rattle.tables.specs.Frames.{values, Fills, Lasts, Makes, Stays};
-ghost use Rattle.tables.specs.Lent.{held, Kept, Reach};
+ghost use Rattle.tables.specs.Frames.{values, Makes, Stays};
+ghost use Rattle.tables.specs.Lent.{held};
 
 use fault::Fault;
 use instruction::Equality;
-use meaning::{Layout, Place, Slip};
-use tables::{Frame, Tables};
+use meaning::{Layout, Place};
+use tables::Frame;
 use types::{Kind, Shape};
 
 /// Whether values of these layouts may be compared: of one kind, element by element, or two intervals.

@@ -1,19 +1,16 @@
 //! Rows that pick elements of a vector.
-ghost use Rattle.std.specs.Prelude.{◌≡◌, ℕ, ◌+◌, ◌*◌, ◌<◌, ◌≤◌, true, length, IfOk};
+ghost use Rattle.std.specs.Prelude.{◌≡◌, ◌<◌, true, IfOk};
 ghost use Rattle.meaning.specs.Expressions.{by2, pick as pick_plan};
-ghost use Rattle.meaning.specs.States.{value_in};
 ghost use Rattle.meaning.specs.Values.{within};
-ghost use Rattle.meaning.specs.Works.{Made};
 ghost use Rattle.selections.specs.Choices.{pick_guard, pick_layout};
-ghost use Rattle.tables.specs.Frames.{values, Fills, Lasts, Makes, Stays};
-ghost use Rattle.tables.specs.Lent.{held, Kept, Reach};
+ghost use Rattle.tables.specs.Frames.{values, Makes, Stays};
 
 use expressions::answers::answer;
 use expressions::lists::{is_orderly, list_at};
 use fault::Fault;
-use meaning::{Layout, Place, Slip};
+use meaning::{Layout, Place};
 use picks::Index;
-use tables::{Frame, Tables};
+use tables::Frame;
 use types::{Kind, Shape};
 
 /// The layout of what a list of indices picks: an index that is a scalar picks a scalar.

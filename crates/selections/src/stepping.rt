@@ -1,19 +1,17 @@
 //! Rows that take every so many elements of a vector or an interval.
-ghost use Rattle.std.specs.Prelude.{◌≡◌, ℕ, ◌+◌, ◌*◌, ◌^◌, ◌<◌, ◌≤◌, true, length, pos, IfOk, slice_index_or};
+ghost use Rattle.std.specs.Prelude.{◌≡◌, ◌+◌, ◌^◌, ◌<◌, ◌≤◌, true, length, pos, IfOk, slice_index_or};
 ghost use Rattle.element.specs.Steps.{step_count};
 ghost use Rattle.picks.specs.Indices.{amount, index_count, IndexBelow};
 ghost use Rattle.meaning.specs.Expressions.{by2, stepped_by};
-ghost use Rattle.meaning.specs.States.{value_in};
-ghost use Rattle.meaning.specs.Values.{vector_of, within};
-ghost use Rattle.meaning.specs.Works.{Made};
+ghost use Rattle.meaning.specs.Values.{within};
 ghost use Rattle.selections.specs.Strides.{strides, step_guard, stepped_in};
-ghost use Rattle.tables.specs.Frames.{values, Fills, Lasts, Makes, Stays};
+ghost use Rattle.tables.specs.Frames.{values, Makes, Stays};
 ghost use Rattle.tables.specs.Lent.{held, Kept, Reach};
 
 use element::steps::step_count;
 use expressions::lists::{is_orderly, list_at};
 use fault::Fault;
-use meaning::{Layout, Place, Slip};
+use meaning::{Layout, Place};
 use picks::Index;
 use picks::indices::span;
 use picks::intervals::step_interval;

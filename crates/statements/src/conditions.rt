@@ -1,12 +1,11 @@
 //! Rows that go one way or another by a condition.
-ghost use Rattle.std.specs.Prelude.{◌*◌, ◌<◌, ◌≤◌, length};
+ghost use Rattle.std.specs.Prelude.{◌<◌};
 ghost use Rattle.statements.specs.Frames.{InTables, branching};
-ghost use Rattle.tables.specs.Frames.{values, Fills, Lasts, Makes, Stays};
-ghost use Rattle.tables.specs.Lent.{held, Kept, Reach};
+ghost use Rattle.tables.specs.Lent.{held};
 
 use fault::{Cause, Fault};
-use meaning::{After, Place, Slip};
-use tables::{Frame, Tables};
+use meaning::After;
+use tables::Frame;
 use types::Kind;
 
 /// An if or a test: on at the next row where the value of row a is true, and at the row after the target where it is false.

@@ -2,16 +2,16 @@
 ghost use Rattle.std.specs.Prelude.{◌<◌, length};
 ghost use Rattle.statements.specs.Frames.{InTables, resuming, reopening, turning};
 ghost use Rattle.statements.specs.Ready.{TurnDomain, DomainBefore, Ready};
-ghost use Rattle.tables.specs.Frames.{values, Fills, Lasts, Makes, Stays};
-ghost use Rattle.tables.specs.Lent.{held, Kept, Reach};
+ghost use Rattle.tables.specs.Frames.{Lasts};
+ghost use Rattle.tables.specs.Lent.{held};
 
 use crate::conditions::branch;
 use crate::each::{advance, resume_each};
 use checker::Line;
 use fault::Fault;
 use instruction::{Control, Instruction};
-use meaning::{After, Place, Slip};
-use tables::{Frame, Tables};
+use meaning::After;
+use tables::Frame;
 
 /// Back to row i, where a control row stands: a loop begins anew, an each takes its next element, and an if is left.
 fn resume(frame: &mut Frame, i: u16, control: Control) -> Result<After, Fault>

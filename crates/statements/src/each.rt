@@ -2,12 +2,12 @@
 ghost use Rattle.std.specs.Prelude.{◌≡◌, ◌+◌, ◌<◌, ◌≤◌, length};
 ghost use Rattle.statements.specs.Domains.{ranged, ElementBelow, with_element};
 ghost use Rattle.statements.specs.Frames.{InTables, advancing, repeating};
-ghost use Rattle.tables.specs.Frames.{values, Fills, Lasts, Makes, Stays};
+ghost use Rattle.tables.specs.Frames.{Lasts};
 ghost use Rattle.tables.specs.Lent.{held, Kept, Reach};
 
 use expressions::lists::{is_orderly, list_at};
 use fault::{Cause, Fault};
-use meaning::{After, Layout, Place, Slip};
+use meaning::{After, Layout, Slip};
 use picks::Index;
 use picks::indices::nth_between;
 use tables::{Frame, Tables};

@@ -1,13 +1,13 @@
 //! Rows that print and read.
 ghost use Rattle.std.specs.Prelude.{◌<◌, ◌≤◌, length};
 ghost use Rattle.statements.specs.Frames.{InOutput, FromSource, outputting, inputting};
-ghost use Rattle.tables.specs.Frames.{values, Fills, Lasts, Makes, Stays};
-ghost use Rattle.tables.specs.Lent.{held, Kept, Reach};
+ghost use Rattle.tables.specs.Frames.{Stays};
+ghost use Rattle.tables.specs.Lent.{held};
 
 use fault::{Cause, Fault};
-use meaning::{After, Place, Slip};
+use meaning::After;
 use source::{Source, StreamState};
-use tables::{Frame, Tables};
+use tables::Frame;
 use types::Shape;
 
 /// Prints the value of row a behind what is printed; where the output has no room for all of it, nothing is, and the row waits.

@@ -1,5 +1,5 @@
 //! Elements cast from the table of one kind into that of another, and literals.
-ghost use Rattle.std.specs.Prelude.{◌≡◌, ◌+◌, ◌<◌, ◌≤◌, [], ◌∷◌, map, length};
+ghost use Rattle.std.specs.Prelude.{◌≡◌, ◌+◌, ◌≤◌, [], ◌∷◌, map};
 ghost use Rattle.element.specs.Cells.{put, cells};
 ghost use Rattle.meaning.specs.Elements.{cast};
 ghost use Rattle.meaning.specs.States.{table_of, with_table};
