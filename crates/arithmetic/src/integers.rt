@@ -101,6 +101,7 @@ impl Operator<i32, Result<i32, ArithmeticFault>> for Arithmetic {
     ghost gives = { exact };
 
     fn apply(&self, x: i32, y: i32) -> Result<i32, ArithmeticFault> {
+        // a closed list that rows name by number: the match gives each name its operator
         match self {
             Arithmetic::Add => Sum.apply(x, y),
             Arithmetic::Subtract => Difference.apply(x, y),

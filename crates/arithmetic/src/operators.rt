@@ -1,15 +1,6 @@
 //! What an operator is: a value that stands for a function of one element or of two.
 ghost use Rattle.std.specs.Prelude.{◌≡◌};
 
-/// The operators before one value: a closed list for those who read or write programs. Each works on its own kind.
-#[derive(Clone, Copy, PartialEq, Eq, Debug)]
-pub enum Prefix {
-    /// The minus of integers.
-    Minus,
-    /// The negation of booleans.
-    Not,
-}
-
 /// A function of two elements of type X.
 pub trait Operator<X, Y> {
     /// The function.

@@ -29,6 +29,7 @@ pub fn calculate(
 {
     let (source, rest) = table.split_at_mut(to);
     let target = &mut rest[..n];
+    // a loop of its own for each operator, chosen once outside it
     match op {
         Arithmetic::Add => try_combine_sure(source, target, Sum, a, b),
         Arithmetic::Subtract => try_combine_sure(source, target, Difference, a, b),

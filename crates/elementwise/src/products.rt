@@ -32,6 +32,7 @@ fn inner(
     ensures { result ≡ dot (cells source.now a n) (strided source.now b stride n) }
 {
     let mut sum = 0;
+    // the column by number: a matrix without rows has no place where a slice of it could begin
     for (k, x) in source[a..a + n].iter().enumerate() {
         sum = add_product(sum, *x, source[b + k * stride])?;
     }

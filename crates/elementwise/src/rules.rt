@@ -32,6 +32,7 @@ fn at_place(k: usize, fault: ArithmeticFault) -> ElementFault
     }
 }
 
+// Two loops, with and without an early exit: one for both would test each result of a rule that cannot fault.
 /// Writes each cell of `target` by a rule that cannot fault.
 pub fn make<S, E: Element, R: Rule<S, E>>(source: &[S], target: &mut [E], rule: &R)
     requires reads { (k : ℕ) → k < length target.old → R.Rule.can rule.now source.now k }

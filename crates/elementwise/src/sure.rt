@@ -21,6 +21,7 @@ pub struct Surely<F> {
     pub b: Operand,
 }
 
+// Not `Between` over an operator of its own: an operator may be asked for any two elements, this value only where it fits.
 impl<F: Sure> Rule<i32, i32> for Surely<F> {
     ghost can = { λ s source k. (place_of s.a k < length source) × (place_of s.b k < length source) × Within (value_at (F.Sure.value s.op) source s.a s.b k) };
 

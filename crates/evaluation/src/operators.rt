@@ -1,4 +1,4 @@
-//! Rows with an operator, by the operator.
+//! Rows with an operator, by the operator: a closed list that rows name by number, so the match is the row's choice.
 ghost use Rattle.std.specs.Prelude.{◌<◌};
 ghost use Rattle.meaning.specs.Expressions.{by1, by2, prefixed, infixed, measured};
 ghost use Rattle.tables.specs.Frames.{values, Makes, Stays};
@@ -38,7 +38,7 @@ pub fn infix_row(frame: &mut Frame, op: Infix, a: u16, b: u16) -> Result<Layout,
 {
     match op {
         Infix::Arithmetic(op) => calculate_row(frame, op, a, b),
-        Infix::Order(op) => { compare_row(frame, op, a, b) }
+        Infix::Order(op) => compare_row(frame, op, a, b),
         Infix::Logic(op) => decide_row(frame, op, a, b),
         Infix::Equality(op) => equate_row(frame, op, a, b),
         Infix::Join => join_row(frame, a, b),

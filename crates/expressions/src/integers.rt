@@ -86,6 +86,7 @@ fn guard_measure(place: Place, shape: Shape, x: Layout) -> Result<Layout, Fault>
     )
 }
 
+// The three differ in a shape and a field: one function would take both, and a clause that ties them to what is asked.
 /// The length of a vector.
 pub fn length_row(frame: &mut Frame, a: u16) -> Result<Layout, Fault>
     ensures made { Makes frame.old (by1 frame.old.place.width (values frame.old) a (measured Length)) result frame.new }

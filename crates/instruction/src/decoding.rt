@@ -28,6 +28,7 @@ fn literal(kind: Kind, n: i32) -> Option<Expression>
 fn start_of(a: u16) -> Option<u16>
     ensures { result ≡ start_of a }
 {
+    // the number of an open size, for no row: the file's layout uses it twice, and the two need not stay alike
     match a {
         65535 => None,
         _ => Some(a),
@@ -49,6 +50,7 @@ fn declare(x: Row) -> Option<Instruction>
 fn expression_of(x: Row) -> Option<Expression>
     ensures { result ≡ expression_of x }
 {
+    // the codes are numbers of the file's own layout
     match x.code {
         1 => literal(Kind::try_from(x.a).ok()?, x.n),
         2 => Some(Expression::Empty(Kind::try_from(x.a).ok()?)),

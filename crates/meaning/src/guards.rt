@@ -48,6 +48,7 @@ impl Place {
 
     /// The layout, where every test passes: kinds and shapes have a rule, bounds are in order, what is counted and the layout
     /// are within the width, and sizes agree.
+    // five arguments: a struct of them would be built at each call and taken apart here alone
     pub fn guard(
         self,
         ruled: bool,

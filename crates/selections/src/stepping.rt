@@ -29,6 +29,7 @@ fn step_at(tables: &Tables, at: usize) -> usize
 }
 
 /// How many elements a list has: at most 2^32, where its cells are among the first so many.
+// `Index::count` with a bound, which only lists of such cells have.
 fn count_of(list: Index) -> usize
     requires { IndexBelow list (2 ^ 32) }
     ensures is { result ≡ index_count list }

@@ -1,5 +1,7 @@
 //! The tables that a host lends.
 
+// Its methods choose the table by one match on the kind: an operation handed on as a value would be a struct and an impl
+// for each, longer than the match, and could say nothing of the three types of cells at once.
 /// The cells of all rows, one table a kind: row i's elements begin at i × width in the table of their kind.
 #[derive(Drop)]
 pub struct Tables<'a> {
