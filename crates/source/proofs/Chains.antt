@@ -1,7 +1,13 @@
 -- Reads one after another take from the front what one read would.
-use Rattle.std.proofs.Common.{◌≡◌, ℕ, ◌+◌, ◌≤◌, List, length, drop, ap, ◌∙◌, arith, length-drop}
+use Rattle.std.proofs.Common.{◌≡◌, ℕ, ◌+◌, ◌≤◌, List, length, drop, sym, ap, ◌∙◌, arith, length-drop}
 use Rattle.std.proofs.lemmas.List.{drop-drop}
 use Rattle.source.specs.Taking.{gone, Took}
+
+-- nothing is removed
+pub took_none : (ys : List ℕ) (n : ℕ) → n ≤ 4294967295 → Took ys ys n n
+took_none ys n h =
+    let none : gone ys ys ≡ 0 = omega arith in
+    record { front = sym (ap (λ k. drop k ys) none); count = omega arith }
 
 -- what is left is no longer
 fewer : (xs ys : List ℕ) → ys ≡ drop (gone xs ys) xs → length ys ≤ length xs
