@@ -32,22 +32,12 @@ module _ {X : Type 0} (T : List X) (to : ℕ) (R : List X) where
   write_more S i v e h k read =
       ap (λ (s : List X). set s (to + i) v) e ∙ ap (set (paste T to R i) (to + i)) read ∙ paste_more T to R i v h k
 
-  -- a turn that copies the cell at k, which lies below `to`
-  pub copy_more : (S : List X) (i k : ℕ) (x : X) → S ≡ paste T to R i → x ≡ get_or S k x → k < to → to + i < length T → i < length R → get_or R i x ≡ get_or T k x → set S (to + i) x ≡ paste T to R (i + 1)
-  copy_more S i k x e read below within more is =
-      write_more S i x e within more (read ∙ read_below S i k x e below (omega arith) ∙ sym is)
-
   -- the part below `to`, as `&table[0..to]` lends it
   pub still_below : (S : List X) (i : ℕ) → S ≡ paste T to R i → to ≤ length T → take (to - 0) S ≡ take to T
   still_below S i e within = let z : to - 0 ≡ to = omega arith in ap (λ (k : ℕ). take k S) z ∙ ap (take to) e ∙ take_below i to (omega arith) within
 
 -- the cells are those of G over the cells below `to`
 module _ {X : Type 0} (T : List X) (to n : ℕ) (G : List X → ℕ → X) where
-  pub make_more : (S : List X) (i : ℕ) (v : X) → S ≡ paste T to (tabulate n (G (take to T))) i → i < n → to + n ≤ length T → v ≡ G (take (to - 0) S) i → set S (to + i) v ≡ paste T to (tabulate n (G (take to T))) (i + 1)
-  make_more S i v e h within is =
-      let l : length (tabulate n (G (take to T))) ≡ n = length-map-range_with_len (G (take to T)) 0 n in
-      write_more T to (tabulate n (G (take to T))) S i v e (omega arith) (omega arith)
-      (is ∙ ap (λ (xs : List X). G xs i) (still_below T to (tabulate n (G (take to T))) S i e (omega arith)) ∙ sym (get_or-map-range_with_len (G (take to T)) 0 n i i v h (omega arith)))
 
 module _ {X : Type 0} where
   -- the part `table[at..at + n]`, and the table after it is written anew
@@ -86,11 +76,6 @@ module _ {X : Type 0} where
   -- a part of some cells
   pub take_cells : (T : List X) (at n k : ℕ) → k ≤ n → take k (cells T at n) ≡ cells T at k
   take_cells T at n k h = take-take k n (drop at T) h
-
-  pub drop_cells : (T : List X) (at n k : ℕ) → k ≤ n → drop k (cells T at n) ≡ cells T (at + k) (n - k)
-  drop_cells T at n k h =
-      let e : n ≡ k + (n - k) = omega arith in
-      ap (λ (m : ℕ). drop k (take m (drop at T))) e ∙ drop-take k (n - k) (drop at T) ∙ ap (take (n - k)) (drop-drop k at T)
 
   -- what is cut or padded, in two parts
   pub padded_parts : (null : X) (T : List X) (from have want kept : ℕ) → from + have ≤ length T → kept ≤ have → kept ≤ want → (want ≤ have → kept ≡ want) → (have ≤ want → kept ≡ have) → cells T from kept ++ replicate (want - kept) null ≡ padded null want (cells T from have)

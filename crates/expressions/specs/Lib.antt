@@ -1,5 +1,4 @@
 pub mod Answers
 pub mod Pairs
-pub mod Parts
 pub mod Lists
 pub mod Products

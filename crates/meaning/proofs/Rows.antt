@@ -42,12 +42,6 @@ pub record Placed (W a p n : ℕ) : Type 0 where
   pub part : a * W + n ≤ p * W
   pub few : n ≤ W
 
-pub operand_placed : (p : Place) (a : ℕ) (f : Layout) → Operand p a f → Placed p.width a p.row (area f)
-operand_placed p a f o =
-    let u = under_all p.width a p.row o.before in
-    let s = (lawful_small p.width f o.lawful).elements in
-    record { whole = u; part = omega arith; few = s }
-
 -- a scalar has one element
 pub scalar_one : (f : Layout) → fixed f ≡ true → same_shape Scalar f.shape ≡ true → (f.r ≡ 1) × (f.s ≡ 1)
 scalar_one f h t = go f.kind f.shape f.r f.s h t

@@ -12,11 +12,6 @@ use Rattle.element.specs.Cells.{cells}
 use Rattle.picks.specs.Indices.{spanned, between, index_count, indices_of, IndexBelow, IndexAbove, place_of, place_among, inside, first_outside, AllInside}
 use Rattle.element.proofs.Writes.{length_cells, get_or_cells, cells_take}
 
-pub at_cells : (index : Index) (T : List ℤ) (z y : ℤ) (at n k : ℕ) → index ≡ Cells at n → k < index_count index → z ≡ y → y ≡ get_or T (at + k) (pos 0) → z ≡ get_or (indices_of index T) k (pos 0)
-at_cells index T z y at n k e h same is =
-    let P : Index → Type 0 = λ i. k < index_count i in
-    same ∙ is ∙ sym (get_or_cells T at n k (pos 0) (subst P e h)) ∙ ap (λ (i : Index). get_or (indices_of i T) k (pos 0)) (sym e)
-
 pub at_interval : (index : Index) (T : List ℤ) (z low high : ℤ) (k : ℕ) → index ≡ Interval low high → k < index_count index → z ≡ low +ℤ pos k → z ≡ get_or (indices_of index T) k (pos 0)
 at_interval index T z low high k e h is =
     let P : Index → Type 0 = λ i. k < index_count i in
@@ -96,9 +91,6 @@ module _ {E I : Type 0} (seen : I → List E → List ℤ)
       → length F ≡ to → IndexBelow index to → IndexBelow index (length (seen s T)) → IndexBelow index (length (seen s F))
   front_below part (Cells at n) T F to e h k = part s T F at n (omega arith) k
   front_below part (Interval low high) T F to e h k = tt
-
-  pub still_within : (index : Index) (T S : List E) → length S ≡ length T → IndexBelow index (length (seen s T)) → IndexBelow index (length (seen s S))
-  still_within index T S e h = let P : ℕ → Type 0 = IndexBelow index in subst P (sym (long s T S e)) h
 
 -- every b-th integer of an interval
 module _ (low high : ℤ) (b : ℕ) where
