@@ -1,13 +1,13 @@
 //! Rows that assign: a variable takes a value of its own sizes.
-ghost use Rattle.std.specs.Prelude.{◌≡◌, ◌*◌, ◌<◌, true, IfOk};
+ghost use Rattle.std.specs.Prelude.{◌≡◌, ◌*◌, ◌<◌, true, IfOk, ◌≤◌, ◌+◌, length};
 ghost use Rattle.meaning.specs.Changes.{assigned};
 ghost use Rattle.meaning.specs.Expressions.{by2};
 ghost use Rattle.meaning.specs.States.{value_from};
 ghost use Rattle.meaning.specs.Values.{lawful, within};
 ghost use Rattle.meaning.specs.Works.{changed};
 ghost use Rattle.changes.specs.Assigns.{assign_guard, giving, Given};
-ghost use Rattle.tables.specs.Frames.{values, Fills, Stays};
-ghost use Rattle.tables.specs.Lent.{held};
+ghost use Rattle.tables.specs.Frames.{Covers, values, Fills, Stays};
+ghost use Rattle.tables.specs.Lent.{held, Holds};
 
 use crate::moves::unfold_interval;
 use expressions::lists::{is_orderly, list_at};
@@ -21,6 +21,7 @@ use types::Shape;
 fn guard_assign(frame: &Frame, a: u16, x: Layout, y: Layout) -> Result<Layout, Fault>
     requires before { a < frame.now.place.row }
     requires lawful { lawful frame.now.place.width y ≡ true }
+    requires ample { Covers frame.now.place frame.now.tables.integers.now }
     ensures is { result ≡ assign_guard frame.now.place frame.now.tables.integers.now a x y }
     ensures within { IfOk result (λ f. within frame.now.place.width f.r f.s ≡ true) }
 {
@@ -42,6 +43,7 @@ fn write_value(frame: &mut Frame, v: u16, a: u16, x: Layout, y: Layout)
     requires before { a < frame.old.place.row }
     requires under { v < a }
     requires given { Given frame.old.place.width frame.old.tables.integers.now a x y }
+    requires ample { Holds frame.old.place frame.old.tables }
     ensures value { held frame.new.tables ≡ changed x.kind (held frame.old.tables) (v * frame.old.place.width) (λ k T. giving k x (value_from frame.old.place.width (held frame.old.tables) a y)) }
     ensures stays { Stays frame.old frame.new }
 {
@@ -63,6 +65,7 @@ fn write_value(frame: &mut Frame, v: u16, a: u16, x: Layout, y: Layout)
 pub fn assign_row(frame: &mut Frame, v: u16, a: u16) -> Result<Layout, Fault>
     requires before { a < frame.old.place.row }
     requires under { v < a }
+    requires ample { Holds frame.old.place frame.old.tables }
     ensures filled { Fills frame.old v (by2 frame.old.place.width (values frame.old) v a assigned) result frame.new }
     ensures within { IfOk result (λ f. within frame.old.place.width f.r f.s ≡ true) }
     ensures stays { Stays frame.old frame.new }

@@ -1,5 +1,5 @@
 //! Rows that declare a variable: nulls, or a value that fits its written type.
-ghost use Rattle.std.specs.Prelude.{◌≡◌, ◌*◌, ◌<◌, true, IfOk, Some};
+ghost use Rattle.std.specs.Prelude.{◌≡◌, ◌*◌, ◌<◌, true, IfOk, Some, ◌≤◌, ◌+◌, length};
 ghost use Rattle.types.specs.Types.{fits_in};
 ghost use Rattle.meaning.specs.Changes.{nulls, declared};
 ghost use Rattle.meaning.specs.Expressions.{by1, size_or};
@@ -8,8 +8,8 @@ ghost use Rattle.meaning.specs.States.{value_from};
 ghost use Rattle.meaning.specs.Values.{lawful, within};
 ghost use Rattle.meaning.specs.Works.{guarded, changed};
 ghost use Rattle.changes.specs.Declares.{fills, begins, layout_for, room_for, declare_guard, Begun, beginning};
-ghost use Rattle.tables.specs.Frames.{values, Fills, Stays};
-ghost use Rattle.tables.specs.Lent.{held};
+ghost use Rattle.tables.specs.Frames.{Covers, values, Fills, Stays};
+ghost use Rattle.tables.specs.Lent.{held, Holds};
 
 use crate::moves::unfold_padded;
 use expressions::builds::size_or;
@@ -36,6 +36,7 @@ fn guard_nulls(place: Place, w: Typing) -> Result<Layout, Fault>
 
 /// A variable of nulls.
 pub fn declare_nulls(frame: &mut Frame, w: Typing) -> Result<Layout, Fault>
+    requires { Holds frame.old.place frame.old.tables }
     ensures filled { Fills frame.old frame.old.place.row (outcome frame.old.place.width (nulls w)) result frame.new }
     ensures within { IfOk result (λ f. within frame.old.place.width f.r f.s ≡ true) }
     ensures stays { Stays frame.old frame.new }
@@ -92,6 +93,7 @@ fn has_room(w: Typing, y: Layout, columns: usize) -> bool
 fn guard_declare(frame: &Frame, w: Typing, a: u16, y: Layout) -> Result<Layout, Fault>
     requires before { a < frame.now.place.row }
     requires lawful { lawful frame.now.place.width y ≡ true }
+    requires ample { Covers frame.now.place frame.now.tables.integers.now }
     ensures is { result ≡ declare_guard frame.now.place frame.now.tables.integers.now a w y }
     ensures within { IfOk result (λ f. within frame.now.place.width f.r f.s ≡ true) }
 {
@@ -115,6 +117,7 @@ fn guard_declare(frame: &Frame, w: Typing, a: u16, y: Layout) -> Result<Layout, 
 fn write_beginning(frame: &mut Frame, w: Typing, a: u16, y: Layout, form: Layout)
     requires before { a < frame.old.place.row }
     requires begun { Begun frame.old.place.width frame.old.tables.integers.now a w y form }
+    requires ample { Holds frame.old.place frame.old.tables }
     ensures value { held frame.new.tables ≡ changed w.kind (held frame.old.tables) (frame.old.place.row * frame.old.place.width) (λ k T. beginning k w form (value_from frame.old.place.width (held frame.old.tables) a y)) }
     ensures stays { Stays frame.old frame.new }
 {
@@ -136,6 +139,7 @@ fn write_beginning(frame: &mut Frame, w: Typing, a: u16, y: Layout, form: Layout
 /// A variable of the written type that begins with the value of row a.
 pub fn declare_row(frame: &mut Frame, w: Typing, a: u16) -> Result<Layout, Fault>
     requires before { a < frame.old.place.row }
+    requires ample { Holds frame.old.place frame.old.tables }
     ensures filled { Fills frame.old frame.old.place.row (by1 frame.old.place.width (values frame.old) a (declared w)) result frame.new }
     ensures within { IfOk result (λ f. within frame.old.place.width f.r f.s ≡ true) }
     ensures stays { Stays frame.old frame.new }

@@ -1,5 +1,5 @@
 //! Rows that store elements into a variable, at indices that count from 1.
-ghost use Rattle.std.specs.Prelude.{◌≡◌, ◌+◌, ◌*◌, ◌<◌, true, [], ◌∷◌, length, pos, IfOk, None, slice_index_or, slice_set};
+ghost use Rattle.std.specs.Prelude.{◌≡◌, ◌+◌, ◌*◌, ◌<◌, true, [], ◌∷◌, length, pos, IfOk, None, slice_index_or, slice_set, ◌≤◌};
 ghost use Rattle.element.specs.Cells.{cells};
 ghost use Rattle.picks.specs.Indices.{first_outside2, place_of};
 ghost use Rattle.meaning.specs.Changes.{stored_at, stored_at_two};
@@ -9,8 +9,8 @@ ghost use Rattle.meaning.specs.States.{value_in};
 ghost use Rattle.meaning.specs.Values.{null_of, lawful, within};
 ghost use Rattle.meaning.specs.Works.{guards, changed, Chosen};
 ghost use Rattle.changes.specs.Stores.{stores, stores_two, store_guard};
-ghost use Rattle.tables.specs.Frames.{values, Fills, Stays};
-ghost use Rattle.tables.specs.Lent.{held, Kept, Reach};
+ghost use Rattle.tables.specs.Frames.{Covers, values, Fills, Stays};
+ghost use Rattle.tables.specs.Lent.{held, Kept, Reach, Holds};
 
 use expressions::answers::answer;
 use expressions::lists::{is_orderly, list_at};
@@ -36,6 +36,7 @@ fn can_store(x: Layout, y: Layout, z: Layout) -> bool
 fn guard_store(frame: &Frame, b: u16, x: Layout, y: Layout, z: Layout) -> Result<Layout, Fault>
     requires before { b < frame.now.place.row }
     requires lawful { lawful frame.now.place.width y ≡ true }
+    requires ample { Covers frame.now.place frame.now.tables.integers.now }
     ensures is { result ≡ store_guard frame.now.place frame.now.tables.integers.now b x y z }
     ensures within { IfOk result (λ f. within frame.now.place.width f.r f.s ≡ true) }
 {
@@ -55,6 +56,7 @@ pub fn store_row(frame: &mut Frame, v: u16, b: u16, c: u16) -> Result<Layout, Fa
     requires value { c < frame.old.place.row }
     requires under_index { v < b }
     requires under_value { v < c }
+    requires ample { Holds frame.old.place frame.old.tables }
     ensures filled { Fills frame.old v (by3 frame.old.place.width (values frame.old) v b c stored_at) result frame.new }
     ensures within { IfOk result (λ f. within frame.old.place.width f.r f.s ≡ true) }
     ensures stays { Stays frame.old frame.new }
@@ -117,6 +119,7 @@ pub fn store_two_row(frame: &mut Frame, v: u16, b: u16, c: u16, d: u16) -> Resul
     requires column { c < frame.old.place.row }
     requires value { d < frame.old.place.row }
     requires before { v < frame.old.place.row }
+    requires ample { Holds frame.old.place frame.old.tables }
     ensures filled { Fills frame.old v (with (value_in frame.old.place.width frame.old.slips.now (held frame.old.tables) v) (λ x. by3 frame.old.place.width (values frame.old) b c d (stored_at_two x))) result frame.new }
     ensures within { IfOk result (λ f. within frame.old.place.width f.r f.s ≡ true) }
     ensures stays { Stays frame.old frame.new }

@@ -36,9 +36,6 @@ module _ {X : Type 0} (T : List X) (to : ℕ) (R : List X) where
   pub still_below : (S : List X) (i : ℕ) → S ≡ paste T to R i → to ≤ length T → take (to - 0) S ≡ take to T
   still_below S i e within = let z : to - 0 ≡ to = omega arith in ap (λ (k : ℕ). take k S) z ∙ ap (take to) e ∙ take_below i to (omega arith) within
 
--- the cells are those of G over the cells below `to`
-module _ {X : Type 0} (T : List X) (to n : ℕ) (G : List X → ℕ → X) where
-
 module _ {X : Type 0} where
   -- the part `table[at..at + n]`, and the table after it is written anew
   pub part_cells : (T : List X) (at n : ℕ) → take (at + n - at) (drop at T) ≡ cells T at n

@@ -3,6 +3,7 @@ ghost use Rattle.std.specs.Prelude.{◌<◌};
 ghost use Rattle.laws.specs.Reads.{make_reads, AllUnder};
 ghost use Rattle.meaning.specs.Expressions.{evaluated};
 ghost use Rattle.tables.specs.Frames.{values, Makes, Stays};
+ghost use Rattle.tables.specs.Lent.{Holds};
 
 use crate::operators::{infix_row, measure_row, prefix_row};
 use expressions::builds::{cast_row, resize_row, stack_row};
@@ -26,6 +27,7 @@ pub fn evaluate(
 ) -> Result<Layout, Fault>
     requires wide { 1 < frame.old.place.width }
     requires reads { AllUnder frame.old.place.row (make_reads expression) }
+    requires ample { Holds frame.old.place frame.old.tables }
     ensures made { Makes frame.old (evaluated frame.old.place.width (values frame.old) state expression) result frame.new }
     ensures stays { Stays frame.old frame.new }
 {

@@ -2,6 +2,7 @@
 ghost use Rattle.std.specs.Prelude.{◌<◌};
 ghost use Rattle.meaning.specs.Expressions.{by1, by2, prefixed, infixed, measured};
 ghost use Rattle.tables.specs.Frames.{values, Makes, Stays};
+ghost use Rattle.tables.specs.Lent.{Holds};
 
 use expressions::builds::join_row;
 use expressions::calculations::{calculate_row, compare_row, decide_row};
@@ -19,6 +20,7 @@ use tables::Frame;
 /// A row with an operator before one value.
 pub fn prefix_row(frame: &mut Frame, op: Prefix, a: u16) -> Result<Layout, Fault>
     requires before { a < frame.old.place.row }
+    requires ample { Holds frame.old.place frame.old.tables }
     ensures made { Makes frame.old (by1 frame.old.place.width (values frame.old) a (prefixed op)) result frame.new }
     ensures stays { Stays frame.old frame.new }
 {
@@ -33,6 +35,7 @@ pub fn infix_row(frame: &mut Frame, op: Infix, a: u16, b: u16) -> Result<Layout,
     requires wide { 1 < frame.old.place.width }
     requires left { a < frame.old.place.row }
     requires right { b < frame.old.place.row }
+    requires ample { Holds frame.old.place frame.old.tables }
     ensures made { Makes frame.old (by2 frame.old.place.width (values frame.old) a b (infixed op)) result frame.new }
     ensures stays { Stays frame.old frame.new }
 {
@@ -50,6 +53,7 @@ pub fn infix_row(frame: &mut Frame, op: Infix, a: u16, b: u16) -> Result<Layout,
 /// A row that asks for a size, or makes a vector of a vector or scalar.
 pub fn measure_row(frame: &mut Frame, asked: Measure, a: u16) -> Result<Layout, Fault>
     requires before { a < frame.old.place.row }
+    requires ample { Holds frame.old.place frame.old.tables }
     ensures made { Makes frame.old (by1 frame.old.place.width (values frame.old) a (measured asked)) result frame.new }
     ensures stays { Stays frame.old frame.new }
 {

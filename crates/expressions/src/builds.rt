@@ -8,6 +8,7 @@ ghost use Rattle.meaning.specs.Expressions.{by1, by2, joined, stack as stacked, 
 ghost use Rattle.meaning.specs.Values.{known, layout_of, vector_of, within};
 ghost use Rattle.meaning.specs.Works.{guards};
 ghost use Rattle.tables.specs.Frames.{values, Makes, Stays};
+ghost use Rattle.tables.specs.Lent.{Holds};
 
 use fault::Fault;
 use meaning::{Layout, Place};
@@ -34,6 +35,7 @@ fn guard_join(place: Place, x: Layout, y: Layout) -> Result<Layout, Fault>
 pub fn join_row(frame: &mut Frame, a: u16, b: u16) -> Result<Layout, Fault>
     requires left { a < frame.old.place.row }
     requires right { b < frame.old.place.row }
+    requires ample { Holds frame.old.place frame.old.tables }
     ensures made { Makes frame.old (by2 frame.old.place.width (values frame.old) a b joined) result frame.new }
     ensures stays { Stays frame.old frame.new }
 {
@@ -70,6 +72,7 @@ fn guard_stack(place: Place, x: Layout, y: Layout) -> Result<Layout, Fault>
 pub fn stack_row(frame: &mut Frame, a: u16, b: u16) -> Result<Layout, Fault>
     requires left { a < frame.old.place.row }
     requires right { b < frame.old.place.row }
+    requires ample { Holds frame.old.place frame.old.tables }
     ensures made { Makes frame.old (by2 frame.old.place.width (values frame.old) a b stacked) result frame.new }
     ensures stays { Stays frame.old frame.new }
 {
@@ -111,6 +114,7 @@ fn guard_resize(place: Place, r: Size, s: Size, x: Layout) -> Result<Layout, Fau
 /// A vector or matrix, cut or padded with nulls to the written sizes.
 pub fn resize_row(frame: &mut Frame, a: u16, r: Size, s: Size) -> Result<Layout, Fault>
     requires before { a < frame.old.place.row }
+    requires ample { Holds frame.old.place frame.old.tables }
     ensures made { Makes frame.old (by1 frame.old.place.width (values frame.old) a (resized_to r s)) result frame.new }
     ensures stays { Stays frame.old frame.new }
 {
@@ -135,6 +139,7 @@ fn guard_cast(place: Place, kind: Kind, x: Layout) -> Result<Layout, Fault>
 /// A value as another kind, element by element.
 pub fn cast_row(frame: &mut Frame, kind: Kind, a: u16) -> Result<Layout, Fault>
     requires before { a < frame.old.place.row }
+    requires ample { Holds frame.old.place frame.old.tables }
     ensures made { Makes frame.old (by1 frame.old.place.width (values frame.old) a (cast_to kind)) result frame.new }
     ensures stays { Stays frame.old frame.new }
 {

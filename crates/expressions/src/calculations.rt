@@ -1,7 +1,7 @@
 //! Rows of arithmetic, orders and logic, element by element.
-ghost use Rattle.std.specs.Prelude.{◌<◌};
+ghost use Rattle.std.specs.Prelude.{◌<◌, ◌≤◌, ◌+◌, ◌*◌, length};
 ghost use Rattle.meaning.specs.Expressions.{by2, calculated, compared, decided_by};
-ghost use Rattle.tables.specs.Frames.{values, Makes, Stays};
+ghost use Rattle.tables.specs.Frames.{Covers, values, Makes, Stays};
 
 use crate::operands::{cells_of, guard_pair};
 use arithmetic::faults::at_row;
@@ -17,6 +17,7 @@ use types::Kind;
 pub fn calculate_row(frame: &mut Frame, op: Arithmetic, a: u16, b: u16) -> Result<Layout, Fault>
     requires left { a < frame.old.place.row }
     requires right { b < frame.old.place.row }
+    requires ample { Covers frame.old.place frame.old.tables.integers.now }
     ensures made { Makes frame.old (by2 frame.old.place.width (values frame.old) a b (calculated op)) result frame.new }
     ensures stays { Stays frame.old frame.new }
 {
@@ -37,6 +38,8 @@ pub fn calculate_row(frame: &mut Frame, op: Arithmetic, a: u16, b: u16) -> Resul
 pub fn compare_row(frame: &mut Frame, op: Order, a: u16, b: u16) -> Result<Layout, Fault>
     requires left { a < frame.old.place.row }
     requires right { b < frame.old.place.row }
+    requires integers { frame.old.place.row * frame.old.place.width ≤ length frame.old.tables.integers.now }
+    requires ample { Covers frame.old.place frame.old.tables.booleans.now }
     ensures made { Makes frame.old (by2 frame.old.place.width (values frame.old) a b (compared op)) result frame.new }
     ensures stays { Stays frame.old frame.new }
 {
@@ -58,6 +61,7 @@ pub fn compare_row(frame: &mut Frame, op: Order, a: u16, b: u16) -> Result<Layou
 pub fn decide_row(frame: &mut Frame, op: Logic, a: u16, b: u16) -> Result<Layout, Fault>
     requires left { a < frame.old.place.row }
     requires right { b < frame.old.place.row }
+    requires ample { Covers frame.old.place frame.old.tables.booleans.now }
     ensures made { Makes frame.old (by2 frame.old.place.width (values frame.old) a b (decided_by op)) result frame.new }
     ensures stays { Stays frame.old frame.new }
 {

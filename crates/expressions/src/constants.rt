@@ -5,6 +5,7 @@ ghost use Rattle.meaning.specs.Expressions.{literal, empty};
 ghost use Rattle.meaning.specs.Plans.{outcome};
 ghost use Rattle.meaning.specs.States.{Tables as Held};
 ghost use Rattle.tables.specs.Frames.{Makes, Stays};
+ghost use Rattle.tables.specs.Lent.{Holds};
 
 use fault::Fault;
 use meaning::{Layout, Place};
@@ -14,6 +15,7 @@ use types::Kind;
 /// A literal of a kind.
 pub fn literal_row(frame: &mut Frame, kind: Kind, n: i32) -> Result<Layout, Fault>
     requires wide { 1 < frame.old.place.width }
+    requires ample { Holds frame.old.place frame.old.tables }
     ensures made { Makes frame.old (outcome frame.old.place.width (literal kind n)) result frame.new }
     ensures stays { Stays frame.old frame.new }
 {

@@ -3,6 +3,7 @@ ghost use Rattle.std.specs.Prelude.{◌<◌};
 ghost use Rattle.instruction.specs.declared.instructions.Measure.TheVariants.{Reverse, Single};
 ghost use Rattle.meaning.specs.Expressions.{by1, copied, measured};
 ghost use Rattle.tables.specs.Frames.{values, Makes, Stays};
+ghost use Rattle.tables.specs.Lent.{Holds};
 
 use fault::Fault;
 use meaning::Layout;
@@ -12,6 +13,7 @@ use types::Shape;
 /// The value of a variable.
 pub fn variable_row(frame: &mut Frame, a: u16) -> Result<Layout, Fault>
     requires before { a < frame.old.place.row }
+    requires ample { Holds frame.old.place frame.old.tables }
     ensures made { Makes frame.old (by1 frame.old.place.width (values frame.old) a (copied)) result frame.new }
     ensures stays { Stays frame.old frame.new }
 {
@@ -27,6 +29,7 @@ pub fn variable_row(frame: &mut Frame, a: u16) -> Result<Layout, Fault>
 /// A vector backward.
 pub fn reverse_row(frame: &mut Frame, a: u16) -> Result<Layout, Fault>
     requires before { a < frame.old.place.row }
+    requires ample { Holds frame.old.place frame.old.tables }
     ensures made { Makes frame.old (by1 frame.old.place.width (values frame.old) a (measured Reverse)) result frame.new }
     ensures stays { Stays frame.old frame.new }
 {
@@ -42,6 +45,7 @@ pub fn reverse_row(frame: &mut Frame, a: u16) -> Result<Layout, Fault>
 /// The vector of one scalar.
 pub fn single_row(frame: &mut Frame, a: u16) -> Result<Layout, Fault>
     requires before { a < frame.old.place.row }
+    requires ample { Holds frame.old.place frame.old.tables }
     ensures made { Makes frame.old (by1 frame.old.place.width (values frame.old) a (measured Single)) result frame.new }
     ensures stays { Stays frame.old frame.new }
 {

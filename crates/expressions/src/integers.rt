@@ -1,5 +1,5 @@
 //! Rows that make integers of what slips and single cells tell: intervals, sizes, the state of the stream.
-ghost use Rattle.std.specs.Prelude.{◌≡◌, ◌<◌, true, ◌&&◌, [], ◌∷◌, length, pos, IfOk, None, int_le, slice_index_or};
+ghost use Rattle.std.specs.Prelude.{◌≡◌, ◌<◌, true, ◌&&◌, [], ◌∷◌, length, pos, IfOk, None, int_le, slice_index_or, ◌≤◌, ◌+◌, ◌*◌};
 ghost use Rattle.types.specs.declared.kinds.Kind.TheVariants.{Integer};
 ghost use Rattle.types.specs.Typings.{alone, is};
 ghost use Rattle.instruction.specs.declared.instructions.Measure.TheVariants.{Length, Rows, Columns};
@@ -8,7 +8,7 @@ ghost use Rattle.meaning.specs.Expressions.{by1, by2, interval, measured, stream
 ghost use Rattle.meaning.specs.Plans.{outcome};
 ghost use Rattle.meaning.specs.Values.{known, scalar_of, within};
 ghost use Rattle.meaning.specs.Works.{guards};
-ghost use Rattle.tables.specs.Frames.{values, Makes, Stays};
+ghost use Rattle.tables.specs.Frames.{Covers, values, Makes, Stays};
 
 use fault::Fault;
 use meaning::{Layout, Place};
@@ -45,6 +45,7 @@ pub fn interval_row(frame: &mut Frame, a: u16, b: u16) -> Result<Layout, Fault>
     requires wide { 1 < frame.old.place.width }
     requires left { a < frame.old.place.row }
     requires right { b < frame.old.place.row }
+    requires ample { Covers frame.old.place frame.old.tables.integers.now }
     ensures made { Makes frame.old (by2 frame.old.place.width (values frame.old) a b interval) result frame.new }
     ensures stays { Stays frame.old frame.new }
 {
@@ -89,6 +90,7 @@ fn guard_measure(place: Place, shape: Shape, x: Layout) -> Result<Layout, Fault>
 // The three differ in a shape and a field: one function would take both, and a clause that ties them to what is asked.
 /// The length of a vector.
 pub fn length_row(frame: &mut Frame, a: u16) -> Result<Layout, Fault>
+    requires ample { Covers frame.old.place frame.old.tables.integers.now }
     ensures made { Makes frame.old (by1 frame.old.place.width (values frame.old) a (measured Length)) result frame.new }
     ensures stays { Stays frame.old frame.new }
 {
@@ -102,6 +104,7 @@ pub fn length_row(frame: &mut Frame, a: u16) -> Result<Layout, Fault>
 
 /// How many rows a matrix has.
 pub fn rows_row(frame: &mut Frame, a: u16) -> Result<Layout, Fault>
+    requires ample { Covers frame.old.place frame.old.tables.integers.now }
     ensures made { Makes frame.old (by1 frame.old.place.width (values frame.old) a (measured Rows)) result frame.new }
     ensures stays { Stays frame.old frame.new }
 {
@@ -115,6 +118,7 @@ pub fn rows_row(frame: &mut Frame, a: u16) -> Result<Layout, Fault>
 
 /// How many columns a matrix has.
 pub fn columns_row(frame: &mut Frame, a: u16) -> Result<Layout, Fault>
+    requires ample { Covers frame.old.place frame.old.tables.integers.now }
     ensures made { Makes frame.old (by1 frame.old.place.width (values frame.old) a (measured Columns)) result frame.new }
     ensures stays { Stays frame.old frame.new }
 {
@@ -128,6 +132,7 @@ pub fn columns_row(frame: &mut Frame, a: u16) -> Result<Layout, Fault>
 
 /// How the last read went.
 pub fn state_row(frame: &mut Frame, state: StreamState) -> Result<Layout, Fault>
+    requires ample { Covers frame.old.place frame.old.tables.integers.now }
     ensures made { Makes frame.old (outcome frame.old.place.width (streamed state)) result frame.new }
     ensures stays { Stays frame.old frame.new }
 {

@@ -1,11 +1,11 @@
 //! Rows with an operator before one value, element by element.
-ghost use Rattle.std.specs.Prelude.{◌≡◌, ◌<◌, true, ◌&&◌, IfOk, None};
+ghost use Rattle.std.specs.Prelude.{◌≡◌, ◌<◌, true, ◌&&◌, IfOk, None, ◌≤◌, ◌+◌, ◌*◌, length};
 ghost use Rattle.types.specs.Typings.{of, flat};
 ghost use Rattle.instruction.specs.declared.instructions.Prefix.TheVariants.{Minus, Not};
 ghost use Rattle.meaning.specs.Expressions.{by1, prefixed};
 ghost use Rattle.meaning.specs.Values.{layout_of, known, within};
 ghost use Rattle.meaning.specs.Works.{guards};
-ghost use Rattle.tables.specs.Frames.{values, Makes, Stays};
+ghost use Rattle.tables.specs.Frames.{Covers, values, Makes, Stays};
 
 use arithmetic::faults::at_row;
 use elementwise::prefix::{negate, not};
@@ -27,6 +27,7 @@ fn guard_prefix(place: Place, kind: Kind, x: Layout) -> Result<Layout, Fault>
 /// The minus of integers.
 pub fn negate_row(frame: &mut Frame, a: u16) -> Result<Layout, Fault>
     requires before { a < frame.old.place.row }
+    requires ample { Covers frame.old.place frame.old.tables.integers.now }
     ensures made { Makes frame.old (by1 frame.old.place.width (values frame.old) a (prefixed Minus)) result frame.new }
     ensures stays { Stays frame.old frame.new }
 {
@@ -44,6 +45,7 @@ pub fn negate_row(frame: &mut Frame, a: u16) -> Result<Layout, Fault>
 /// The opposite of booleans.
 pub fn not_row(frame: &mut Frame, a: u16) -> Result<Layout, Fault>
     requires before { a < frame.old.place.row }
+    requires ample { Covers frame.old.place frame.old.tables.booleans.now }
     ensures made { Makes frame.old (by1 frame.old.place.width (values frame.old) a (prefixed Not)) result frame.new }
     ensures stays { Stays frame.old frame.new }
 {

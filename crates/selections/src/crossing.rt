@@ -4,6 +4,7 @@ ghost use Rattle.meaning.specs.Expressions.{by3, cross_shape, pick_two};
 ghost use Rattle.meaning.specs.Values.{within};
 ghost use Rattle.selections.specs.Choices.{cross_guard, cross_layout};
 ghost use Rattle.tables.specs.Frames.{values, Makes, Stays};
+ghost use Rattle.tables.specs.Lent.{Holds};
 
 use expressions::answers::answer;
 use expressions::lists::{is_orderly, list_at};
@@ -75,6 +76,7 @@ pub fn pick_two_row(frame: &mut Frame, a: u16, b: u16, c: u16) -> Result<Layout,
     requires whole { a < frame.old.place.row }
     requires row { b < frame.old.place.row }
     requires column { c < frame.old.place.row }
+    requires ample { Holds frame.old.place frame.old.tables }
     ensures made { Makes frame.old (by3 frame.old.place.width (values frame.old) a b c pick_two) result frame.new }
     ensures stays { Stays frame.old frame.new }
 {

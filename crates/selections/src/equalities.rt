@@ -5,7 +5,7 @@ ghost use Rattle.meaning.specs.Expressions.{by2, equated, says as says_of};
 ghost use Rattle.meaning.specs.Values.{lawful};
 ghost use Rattle.selections.specs.Equalities.{equates, equate_guard, same_at};
 ghost use Rattle.tables.specs.Frames.{values, Makes, Stays};
-ghost use Rattle.tables.specs.Lent.{held};
+ghost use Rattle.tables.specs.Lent.{held, Holds};
 
 use fault::Fault;
 use instruction::Equality;
@@ -40,6 +40,7 @@ fn are_equal(frame: &Frame, a: u16, b: u16, x: Layout, y: Layout) -> bool
     requires right { b < frame.now.place.row }
     requires left_lawful { lawful frame.now.place.width x ≡ true }
     requires right_lawful { lawful frame.now.place.width y ≡ true }
+    requires ample { Holds frame.now.place frame.now.tables }
     ensures { result ≡ same_at (held frame.now.tables) x y (a * frame.now.place.width) (b * frame.now.place.width) }
 {
     let place = frame.place;
@@ -80,6 +81,7 @@ pub fn equate_row(frame: &mut Frame, op: Equality, a: u16, b: u16) -> Result<Lay
     requires wide { 1 < frame.old.place.width }
     requires left { a < frame.old.place.row }
     requires right { b < frame.old.place.row }
+    requires ample { Holds frame.old.place frame.old.tables }
     ensures made { Makes frame.old (by2 frame.old.place.width (values frame.old) a b (equated op)) result frame.new }
     ensures stays { Stays frame.old frame.new }
 {

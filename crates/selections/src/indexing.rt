@@ -4,6 +4,7 @@ ghost use Rattle.meaning.specs.Expressions.{by2, pick as pick_plan};
 ghost use Rattle.meaning.specs.Values.{within};
 ghost use Rattle.selections.specs.Choices.{pick_guard, pick_layout};
 ghost use Rattle.tables.specs.Frames.{values, Makes, Stays};
+ghost use Rattle.tables.specs.Lent.{Holds};
 
 use expressions::answers::answer;
 use expressions::lists::{is_orderly, list_at};
@@ -48,6 +49,7 @@ pub fn pick_row(frame: &mut Frame, a: u16, b: u16) -> Result<Layout, Fault>
     requires wide { 1 < frame.old.place.width }
     requires left { a < frame.old.place.row }
     requires right { b < frame.old.place.row }
+    requires ample { Holds frame.old.place frame.old.tables }
     ensures made { Makes frame.old (by2 frame.old.place.width (values frame.old) a b pick_plan) result frame.new }
     ensures stays { Stays frame.old frame.new }
 {

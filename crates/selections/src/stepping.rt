@@ -6,7 +6,7 @@ ghost use Rattle.meaning.specs.Expressions.{by2, stepped_by};
 ghost use Rattle.meaning.specs.Values.{within};
 ghost use Rattle.selections.specs.Strides.{strides, step_guard, stepped_in};
 ghost use Rattle.tables.specs.Frames.{values, Makes, Stays};
-ghost use Rattle.tables.specs.Lent.{held, Kept, Reach};
+ghost use Rattle.tables.specs.Lent.{held, Kept, Reach, Holds};
 
 use element::steps::step_count;
 use expressions::lists::{is_orderly, list_at};
@@ -92,6 +92,7 @@ pub fn step_row(frame: &mut Frame, a: u16, b: u16) -> Result<Layout, Fault>
     requires wide { 1 < frame.old.place.width }
     requires left { a < frame.old.place.row }
     requires right { b < frame.old.place.row }
+    requires ample { Holds frame.old.place frame.old.tables }
     ensures made { Makes frame.old (by2 frame.old.place.width (values frame.old) a b stepped_by) result frame.new }
     ensures stays { Stays frame.old frame.new }
 {

@@ -1,7 +1,8 @@
 -- What a row leaves of what it works on.
-use Rattle.std.specs.Prelude.{◌≡◌, ℕ, length, Option, Result}
+use Rattle.std.specs.Prelude.{◌≡◌, ℕ, ◌+◌, ◌*◌, ◌≤◌, List, length, Option, Result}
 use Rattle.fault.specs.declared.faults.Fault.{Fault}
 use Rattle.meaning.specs.declared.layouts.Layout.{Layout}
+use Rattle.meaning.specs.declared.places.Place.{Place}
 use Rattle.meaning.specs.Plans.{Outcome}
 use Rattle.meaning.specs.States.{value_in}
 use Rattle.meaning.specs.Values.{Value}
@@ -12,6 +13,10 @@ use Rattle.tables.specs.Lent.{held, Kept}
 -- the values that rows hold
 abbrev pub values : Frame → ℕ → Option Value
 values f i = value_in f.place.width f.slips.now (held f.tables) i
+
+-- a table that has the cells of the row at work, and of those before it
+abbrev pub Covers : {X : Type 0} → Place → List X → Type 0
+Covers p xs = p.row * p.width + p.width ≤ length xs
 
 -- an expression row: its value in its own cells; or its fault, and its cells are free
 abbrev pub Makes : Frame → Outcome → Result Layout Fault → Frame → Type 0

@@ -3,20 +3,19 @@ ghost use Rattle.std.specs.Prelude.{◌≡◌, ◌<◌, true, IfOk};
 ghost use Rattle.meaning.specs.States.{layout_at};
 ghost use Rattle.meaning.specs.Values.{lawful};
 ghost use Rattle.meaning.specs.Works.{found};
-ghost use Rattle.tables.specs.Lent.{Holds};
 
 use crate::lent::Tables;
 use fault::Fault;
 use meaning::{Layout, Place, Slip};
 
-/// A row at work: where it stands, what the rows hold, and the lent tables, which have its cells. The other ghost
-/// fields carry the ranges of its numbers to a reader of a frame.
+// No ghost field says that the tables have the row's cells: rows that work in one table, or in none, would then ask all three.
+/// A row at work: where it stands, what the rows hold, and the lent tables. The ghost fields carry the ranges of its
+/// numbers to a reader of a frame.
 #[derive(Drop)]
 pub struct Frame<'a> {
     pub place: Place,
     pub slips: &'a mut [Slip],
     pub tables: Tables<'a>,
-    ghost ample: { Holds place tables },
     ghost width_fits: { place.width < 65536 },
     ghost row_fits: { place.row < 65536 },
 }

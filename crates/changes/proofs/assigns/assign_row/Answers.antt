@@ -29,6 +29,7 @@ write_value-requires c =
       before = c.requires.before;
       under = c.requires.under;
       given = assign_given a.frame.now.place t a.v a.a c.in_ok-x.x c.in_ok-y.y c.in_ok-y.ensures.lawful c.in_ok-form.form c.in_ok-form.ensures.is c.in_ok-x.ensures.lawful;
+      ample = c.requires.ample;
     }
 
 pub returns : goal.returns

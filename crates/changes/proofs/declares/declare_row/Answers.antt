@@ -27,6 +27,7 @@ write_beginning-requires c =
     record {
       before = c.requires.before;
       begun = declare_begun a.frame.now.place t a.w a.a c.in_ok-y.y c.in_ok-y.ensures.lawful c.in_ok-form.form c.in_ok-form.ensures.is c.in_ok-form.ensures.within;
+      ample = c.requires.ample;
     }
 
 pub returns : goal.returns

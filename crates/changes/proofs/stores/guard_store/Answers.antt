@@ -6,4 +6,4 @@ use Rattle.changes.proofs.stores.guard_store.Goals as goal
 pub list_at-index-requires : goal.list_at-index-requires
 list_at-index-requires c =
     let a = c.args in
-    next_cell a.frame.now.place.width a.b a.frame.now.place.row (length a.frame.now.tables.integers.now) a.y c.requires.before c.requires.lawful (by_list a.x a.y a.z (sym c.if-not-can_store.ensures)) c.args.frame.now.ample.integers
+    next_cell a.frame.now.place.width a.b a.frame.now.place.row (length a.frame.now.tables.integers.now) a.y c.requires.before c.requires.lawful (by_list a.x a.y a.z (sym c.if-not-can_store.ensures)) c.requires.ample

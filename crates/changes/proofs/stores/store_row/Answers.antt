@@ -34,7 +34,7 @@ list_at-index-requires c =
     let z = c.in_ok-z.z in
     let ly = c.in_ok-y.ensures.lawful in
     next_cell p.width a.b p.row (length a.frame.now.tables.integers.now) y c.requires.index ly
-    (by_list x y z (ruled p t a.v a.b a.c x y z ly c.in_ok-form.form c.in_ok-form.ensures.is c.in_ok-x.ensures.lawful c.in_ok-z.ensures.lawful)) c.args.frame.now.ample.integers
+    (by_list x y z (ruled p t a.v a.b a.c x y z ly c.in_ok-form.form c.in_ok-form.ensures.is c.in_ok-x.ensures.lawful c.in_ok-z.ensures.lawful)) c.requires.ample.integers
 
 pub store-stored-requires : goal.store-stored-requires
 store-stored-requires c =
@@ -55,8 +55,8 @@ store-stored-requires c =
     record {
       above = store_above p t a.v a.b a.c x y z ly form g lx lz to.result to.ensures ix.result ix.ensures vs.result vs.ensures c.requires.index c.requires.value c.requires.under_index c.requires.under_value;
       indices = store_under p t a.v a.b a.c x y z ly form g lx lz to.result to.ensures ix.result ix.ensures vs.result vs.ensures c.requires.index c.requires.value c.requires.under_index c.requires.under_value;
-      seen = store_seen p t a.v a.b a.c x y z ly form g lx lz to.result to.ensures ix.result ix.ensures vs.result vs.ensures c.requires.index c.requires.value c.requires.under_index c.requires.under_value (length a.frame.now.tables.integers.now) c.args.frame.now.ample.integers;
-      within = reach a.frame.now.tables c.args.frame.now.ample (store_fits p t a.v a.b a.c x y z ly form g lx lz to.result to.ensures ix.result ix.ensures vs.result vs.ensures c.requires.index c.requires.value c.requires.under_index c.requires.under_value (p.row * p.width + p.width) (omega arith));
+      seen = store_seen p t a.v a.b a.c x y z ly form g lx lz to.result to.ensures ix.result ix.ensures vs.result vs.ensures c.requires.index c.requires.value c.requires.under_index c.requires.under_value (length a.frame.now.tables.integers.now) c.requires.ample.integers;
+      within = reach a.frame.now.tables c.requires.ample (store_fits p t a.v a.b a.c x y z ly form g lx lz to.result to.ensures ix.result ix.ensures vs.result vs.ensures c.requires.index c.requires.value c.requires.under_index c.requires.under_value (p.row * p.width + p.width) (omega arith));
     }
 
 pub returns : goal.returns

@@ -49,10 +49,10 @@ store_at_cells-stored-requires c =
     let end = p.row * p.width + p.width in
     let is = length a.frame.now.tables.integers.now in
     record {
-      row = row_below p t a.v a.b a.c a.d x y z w form g lx ly lz lw to.result row.result column.result from.result to.ensures row.ensures column.ensures from.ensures is c.args.frame.now.ample.integers c.requires.row;
-      column = column_below p t a.v a.b a.c a.d x y z w form g lx ly lz lw to.result row.result column.result from.result to.ensures row.ensures column.ensures from.ensures is c.args.frame.now.ample.integers c.requires.column;
-      from = reach a.frame.now.tables c.args.frame.now.ample (omega (arith, value_below p t a.v a.b a.c a.d x y z w form g lx ly lz lw to.result row.result column.result from.result to.ensures row.ensures column.ensures from.ensures end (omega arith) c.requires.value));
-      within = reach a.frame.now.tables c.args.frame.now.ample (matrix_fits p t a.v a.b a.c a.d x y z w form g lx ly lz lw to.result row.result column.result from.result to.ensures row.ensures column.ensures from.ensures end (omega arith) c.requires.before);
+      row = row_below p t a.v a.b a.c a.d x y z w form g lx ly lz lw to.result row.result column.result from.result to.ensures row.ensures column.ensures from.ensures is c.requires.ample.integers c.requires.row;
+      column = column_below p t a.v a.b a.c a.d x y z w form g lx ly lz lw to.result row.result column.result from.result to.ensures row.ensures column.ensures from.ensures is c.requires.ample.integers c.requires.column;
+      from = reach a.frame.now.tables c.requires.ample (omega (arith, value_below p t a.v a.b a.c a.d x y z w form g lx ly lz lw to.result row.result column.result from.result to.ensures row.ensures column.ensures from.ensures end (omega arith) c.requires.value));
+      within = reach a.frame.now.tables c.requires.ample (matrix_fits p t a.v a.b a.c a.d x y z w form g lx ly lz lw to.result row.result column.result from.result to.ensures row.ensures column.ensures from.ensures end (omega arith) c.requires.before);
     }
 
 pub returns : goal.returns

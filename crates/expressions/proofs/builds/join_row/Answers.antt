@@ -30,7 +30,7 @@ join-requires c =
     record {
       left = omega (arith, l, sx.columns, c.start_of-left.ensures, c.start_of-to.ensures);
       right = omega (arith, r, sy.columns, c.start_of-right.ensures, c.start_of-to.ensures);
-      within = reach c.args.frame.now.tables c.args.frame.now.ample (omega (arith, e, s.columns, c.start_of-to.ensures));
+      within = reach c.args.frame.now.tables c.requires.ample (omega (arith, e, s.columns, c.start_of-to.ensures));
     }
 
 pub returns-clause-made : goal.returns-clause-made

@@ -20,7 +20,7 @@ resize_matrix-requires c =
     let s = within_small p.width c.in_ok-form.form c.in_ok-form.ensures.within in
     record {
       below = omega (arith, u, x.elements, c.start_of-at.ensures, c.start_of-to.ensures);
-      within = reach c.args.frame.now.tables c.args.frame.now.ample (omega (arith, s.elements, c.start_of-to.ensures));
+      within = reach c.args.frame.now.tables c.requires.ample (omega (arith, s.elements, c.start_of-to.ensures));
     }
 
 pub returns-clause-made : goal.returns-clause-made

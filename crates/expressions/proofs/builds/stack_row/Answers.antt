@@ -32,7 +32,7 @@ stack-requires c =
     record {
       upper = omega (arith, l, sx.elements, c.start_of-upper.ensures, c.start_of-to.ensures);
       lower = omega (arith, r, sy.columns, c.start_of-lower.ensures, c.start_of-to.ensures);
-      within = reach c.args.frame.now.tables c.args.frame.now.ample (omega (arith, e, s.elements, c.start_of-to.ensures));
+      within = reach c.args.frame.now.tables c.requires.ample (omega (arith, e, s.elements, c.start_of-to.ensures));
     }
 
 pub returns-clause-made : goal.returns-clause-made

@@ -29,7 +29,7 @@ calculate-worked-requires c =
     c.in_ok-x.ensures.lawful c.in_ok-y.ensures.lawful c.cells_of-left.result c.cells_of-right.result c.cells_of-left.ensures c.cells_of-right.ensures c.start_of-to.result c.start_of-to.ensures s.elements c.requires.left in
     let r = right_end p Integer Integer f t c.args.a c.args.b c.in_ok-x.x c.in_ok-y.y c.in_ok-form.form c.in_ok-form.ensures.is
     c.in_ok-x.ensures.lawful c.in_ok-y.ensures.lawful c.cells_of-left.result c.cells_of-right.result c.cells_of-left.ensures c.cells_of-right.ensures c.start_of-to.result c.start_of-to.ensures s.elements c.requires.right in
-    record { left = l; right = r; within = omega (arith, s.elements, c.start_of-to.ensures, c.args.frame.now.ample.integers) }
+    record { left = l; right = r; within = omega (arith, s.elements, c.start_of-to.ensures, c.requires.ample) }
 
 pub returns-in_err-at_row-clause-made : goal.returns-in_err-at_row-clause-made
 returns-in_err-at_row-clause-made c =

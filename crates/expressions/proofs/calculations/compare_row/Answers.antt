@@ -30,7 +30,7 @@ compare-requires c =
     c.in_ok-x.ensures.lawful c.in_ok-y.ensures.lawful c.cells_of-left.result c.cells_of-right.result c.cells_of-left.ensures c.cells_of-right.ensures c.start_of-to.result c.start_of-to.ensures s.elements c.requires.left in
     let r = right_end p Integer Boolean f t c.args.a c.args.b c.in_ok-x.x c.in_ok-y.y c.in_ok-form.form c.in_ok-form.ensures.is
     c.in_ok-x.ensures.lawful c.in_ok-y.ensures.lawful c.cells_of-left.result c.cells_of-right.result c.cells_of-left.ensures c.cells_of-right.ensures c.start_of-to.result c.start_of-to.ensures s.elements c.requires.right in
-    record { left = omega (arith, l, c.start_of-to.ensures, c.args.frame.now.ample.integers); right = omega (arith, r, c.start_of-to.ensures, c.args.frame.now.ample.integers); within = omega (arith, s.elements, c.start_of-to.ensures, c.args.frame.now.ample.booleans) }
+    record { left = omega (arith, l, c.start_of-to.ensures, c.requires.integers); right = omega (arith, r, c.start_of-to.ensures, c.requires.integers); within = omega (arith, s.elements, c.start_of-to.ensures, c.requires.ample) }
 
 pub returns-clause-made : goal.returns-clause-made
 returns-clause-made c =

@@ -16,7 +16,7 @@ is_upward-requires c =
     let p = c.args.frame.now.place in
     let l = under_all p.width c.args.a p.row c.requires.left in
     let r = under_all p.width c.args.b p.row c.requires.right in
-    record { left = omega (arith, l, c.start_of-low.ensures, c.args.frame.now.ample.integers, c.requires.wide); right = omega (arith, r, c.start_of-high.ensures, c.args.frame.now.ample.integers, c.requires.wide) }
+    record { left = omega (arith, l, c.start_of-low.ensures, c.requires.ample, c.requires.wide); right = omega (arith, r, c.start_of-high.ensures, c.requires.ample, c.requires.wide) }
 
 pub returns-in_err-form-clause-made : goal.returns-in_err-form-clause-made
 returns-in_err-form-clause-made c =
@@ -34,7 +34,7 @@ join-requires c =
     record {
       left = omega (arith, l, c.start_of-low.ensures, c.start_of.ensures, c.requires.wide);
       right = omega (arith, r, c.start_of-high.ensures, c.start_of.ensures, c.requires.wide);
-      within = reach c.args.frame.now.tables c.args.frame.now.ample (omega (arith, c.start_of.ensures, c.requires.wide));
+      within = reach c.args.frame.now.tables c.requires.ample (omega (arith, c.start_of.ensures, c.requires.wide));
     }
 
 pub returns-clause-made : goal.returns-clause-made
@@ -47,7 +47,7 @@ returns-clause-made c =
     let r = under_all p.width c.args.b p.row c.requires.right in
     let g = c.in_ok-form.ensures.is ∙ interval_guard p t c.args.a c.args.b x y c.in_ok-x.ensures.lawful c.in_ok-y.ensures.lawful c.start_of-low.result c.start_of-high.result c.start_of-low.ensures c.start_of-high.ensures c.are_bounds.result c.is_upward.result c.are_bounds.ensures c.is_upward.ensures in
     let e = interval_elements p t c.args.a c.args.b x y c.in_ok-x.ensures.lawful c.in_ok-y.ensures.lawful c.start_of-low.result c.start_of-high.result c.start_of-low.ensures c.start_of-high.ensures c.in_ok-form.form g
-    (omega (arith, l, c.start_of-low.ensures, c.args.frame.now.ample.integers, c.requires.wide)) (omega (arith, r, c.start_of-high.ensures, c.args.frame.now.ample.integers, c.requires.wide)) in
+    (omega (arith, l, c.start_of-low.ensures, c.requires.ample, c.requires.wide)) (omega (arith, r, c.start_of-high.ensures, c.requires.ample, c.requires.wide)) in
     made_2 p c.args.frame.now.slips.now t _ _ c.args.a c.args.b interval x y c.in_ok-x.ensures.is c.in_ok-y.ensures.is
     (changed_made p t _ (interval (value_from p.width t c.args.a x) (value_from p.width t c.args.b y)) c.in_ok-form.form g refl Integer c.start_of.result
     (λ k T. cells T c.start_of-low.result 1 ++ cells T c.start_of-high.result 1) refl e c.start_of.ensures c.join.ensures.value)

@@ -26,7 +26,7 @@ negate-worked-requires c =
     let s = within_small p.width c.in_ok-form.form c.in_ok-form.ensures.within in
     record {
       below = own_below p Integer (held c.args.frame.now.tables) c.args.a c.in_ok-x.x c.in_ok-form.form c.in_ok-form.ensures.is c.start_of-at.result c.start_of-to.result c.start_of-at.ensures c.start_of-to.ensures c.requires.before s.elements;
-      within = omega (arith, s.elements, c.start_of-to.ensures, c.args.frame.now.ample.integers);
+      within = omega (arith, s.elements, c.start_of-to.ensures, c.requires.ample);
     }
 
 pub returns-in_err-at_row-clause-made : goal.returns-in_err-at_row-clause-made

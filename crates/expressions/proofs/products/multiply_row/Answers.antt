@@ -27,7 +27,7 @@ write_product-worked-requires c =
     record {
       left = left_below p t c.args.a c.args.b x y form g lx ly c.start_of-left.result c.start_of-right.result c.start_of-left.ensures c.start_of-right.ensures c.start_of-to.result c.start_of-to.ensures c.requires.left;
       right = right_below p t c.args.a c.args.b x y form g lx ly c.start_of-left.result c.start_of-right.result c.start_of-left.ensures c.start_of-right.ensures c.start_of-to.result c.start_of-to.ensures c.requires.right;
-      within = omega (arith, s.elements, c.start_of-to.ensures, c.args.frame.now.ample.integers, same_area p t c.args.a c.args.b x y form g lx ly);
+      within = omega (arith, s.elements, c.start_of-to.ensures, c.requires.ample, same_area p t c.args.a c.args.b x y form g lx ly);
     }
 
 pub returns-in_err-at_row-clause-made : goal.returns-in_err-at_row-clause-made

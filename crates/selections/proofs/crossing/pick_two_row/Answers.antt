@@ -12,13 +12,13 @@ pub list_at-rows-requires : goal.list_at-rows-requires
 list_at-rows-requires c =
     let p = c.args.frame.now.place in
     let u = under_all p.width c.args.b p.row c.requires.row in
-    omega (arith, u, c.args.frame.now.ample.integers, c.requires.wide)
+    omega (arith, u, c.requires.ample.integers, c.requires.wide)
 
 pub list_at-columns-requires : goal.list_at-columns-requires
 list_at-columns-requires c =
     let p = c.args.frame.now.place in
     let u = under_all p.width c.args.c p.row c.requires.column in
-    omega (arith, u, c.args.frame.now.ample.integers, c.requires.wide)
+    omega (arith, u, c.requires.ample.integers, c.requires.wide)
 
 pub returns-in_err-form-clause-made : goal.returns-in_err-form-clause-made
 returns-in_err-form-clause-made c =
@@ -50,10 +50,10 @@ pick_matrix-picked-requires c =
       below = omega (arith, w, f.elements, c.start_of-from.ensures, c.start_of-to.ensures);
       rows_below = read_below p.width t c.args.b y ly rows er _ (omega (arith, u, c.start_of-to.ensures));
       columns_below = read_below p.width t c.args.c z lz columns ec _ (omega (arith, v, c.start_of-to.ensures));
-      rows_seen = read_below p.width t c.args.b y ly rows er _ (omega (arith, u, c.args.frame.now.ample.integers));
-      columns_seen = read_below p.width t c.args.c z lz columns ec _ (omega (arith, v, c.args.frame.now.ample.integers));
+      rows_seen = read_below p.width t c.args.b y ly rows er _ (omega (arith, u, c.requires.ample.integers));
+      columns_seen = read_below p.width t c.args.c z lz columns ec _ (omega (arith, v, c.requires.ample.integers));
       few = (let r = n.rows in let s = n.columns in search rules);
-      within = reach c.args.frame.now.tables c.args.frame.now.ample (omega (arith, n.crossings, c.start_of-to.ensures));
+      within = reach c.args.frame.now.tables c.requires.ample (omega (arith, n.crossings, c.start_of-to.ensures));
     }
 
 pub returns-clause-made : goal.returns-clause-made

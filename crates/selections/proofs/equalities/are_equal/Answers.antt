@@ -12,8 +12,8 @@ equal_throughout-requires c =
     let er = c.start_of-right.ensures in
     let few = c.area-many.ensures.small in
     record {
-      scalar = reach c.args.frame.now.tables c.args.frame.now.ample (omega (arith, r, er, c.requires.wide));
-      within = reach c.args.frame.now.tables c.args.frame.now.ample (omega (arith, l, el, few));
+      scalar = reach c.args.frame.now.tables c.requires.ample (omega (arith, r, er, c.requires.wide));
+      within = reach c.args.frame.now.tables c.requires.ample (omega (arith, l, el, few));
     }
 
 pub equal_throughout-requires-then-is-2 : goal.equal_throughout-requires-then-is-2
@@ -25,8 +25,8 @@ equal_throughout-requires-then-is-2 c =
     let er = c.start_of-right.ensures in
     let few = c.area.ensures.small in
     record {
-      scalar = reach c.args.frame.now.tables c.args.frame.now.ample (omega (arith, l, el, c.requires.wide));
-      within = reach c.args.frame.now.tables c.args.frame.now.ample (omega (arith, r, er, few));
+      scalar = reach c.args.frame.now.tables c.requires.ample (omega (arith, l, el, c.requires.wide));
+      within = reach c.args.frame.now.tables c.requires.ample (omega (arith, r, er, few));
     }
 
 pub equal-requires : goal.equal-requires
@@ -38,6 +38,6 @@ equal-requires c =
     let er = c.start_of-right.ensures in
     let few = c.area-many.ensures.small in
     record {
-      left = reach c.args.frame.now.tables c.args.frame.now.ample (omega (arith, l, el, few));
-      right = reach c.args.frame.now.tables c.args.frame.now.ample (omega (arith, r, er, few));
+      left = reach c.args.frame.now.tables c.requires.ample (omega (arith, l, el, few));
+      right = reach c.args.frame.now.tables c.requires.ample (omega (arith, r, er, few));
     }

@@ -29,7 +29,7 @@ returns-clause-made c =
     let form = c.in_ok-form.form in
     let g = c.in_ok-form.ensures in
     let ok : Bool → Result (List Bool) ElementFault = λ b. Ok (b ∷ []) in
-    let e = equal_cells p c.args.op t c.args.a c.args.b x y form g lx ly c.requires.wide c.requires.left c.args.frame.now.ample in
+    let e = equal_cells p c.args.op t c.args.a c.args.b x y form g lx ly c.requires.wide c.requires.left c.requires.ample in
     made_2 p c.args.frame.now.slips.now t _ _ c.args.a c.args.b (equated c.args.op) x y c.in_ok-x.ensures.is c.in_ok-y.ensures.is
     (left_value p p.row (FreeAt p.width p.row) t _ (equate_at p c.args.op t c.args.a c.args.b x y form g lx ly) form (sym g) (c.says.result ∷ []) refl
     (ap ok (ap (says c.args.op) (e ∙ sym c.are_equal-same.ensures) ∙ sym c.says.ensures))

@@ -11,7 +11,7 @@ pub list_at-list-requires : goal.list_at-list-requires
 list_at-list-requires c =
     let p = c.args.frame.now.place in
     let u = under_all p.width c.args.b p.row c.requires.right in
-    omega (arith, u, c.args.frame.now.ample.integers, c.requires.wide)
+    omega (arith, u, c.requires.ample.integers, c.requires.wide)
 
 pub returns-in_err-form-clause-made : goal.returns-in_err-form-clause-made
 returns-in_err-form-clause-made c =
@@ -38,8 +38,8 @@ pick-picked-requires c =
     record {
       below = omega (arith, l, f.columns, c.start_of-from.ensures, c.start_of-to.ensures);
       indices = read_below p.width t c.args.b y ly c.list_at-list.result c.list_at-list.ensures _ (omega (arith, r, c.start_of-to.ensures));
-      seen = read_below p.width t c.args.b y ly c.list_at-list.result c.list_at-list.ensures _ (omega (arith, r, c.args.frame.now.ample.integers));
-      within = reach c.args.frame.now.tables c.args.frame.now.ample (omega (arith, n, s.columns, c.start_of-to.ensures));
+      seen = read_below p.width t c.args.b y ly c.list_at-list.result c.list_at-list.ensures _ (omega (arith, r, c.requires.ample.integers));
+      within = reach c.args.frame.now.tables c.requires.ample (omega (arith, n, s.columns, c.start_of-to.ensures));
     }
 
 pub returns-clause-made : goal.returns-clause-made

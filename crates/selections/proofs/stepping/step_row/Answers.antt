@@ -14,13 +14,13 @@ pub list_at-list-requires : goal.list_at-list-requires
 list_at-list-requires c =
     let p = c.args.frame.now.place in
     let u = under_all p.width c.args.a p.row c.requires.left in
-    omega (arith, u, c.args.frame.now.ample.integers, c.requires.wide)
+    omega (arith, u, c.requires.ample.integers, c.requires.wide)
 
 pub step_at-step-requires : goal.step_at-step-requires
 step_at-step-requires c =
     let p = c.args.frame.now.place in
     let u = under_all p.width c.args.b p.row c.requires.right in
-    omega (arith, u, c.start_of.ensures, c.args.frame.now.ample.integers, c.requires.wide)
+    omega (arith, u, c.start_of.ensures, c.requires.ample.integers, c.requires.wide)
 
 pub returns-in_err-form-clause-made : goal.returns-in_err-form-clause-made
 returns-in_err-form-clause-made c =
@@ -54,7 +54,7 @@ write_steps-requires c =
       small = c.step_at-step.ensures.small;
       below = read_below p.width t c.args.a x lx list el _ (omega (arith, u, c.start_of-to.ensures));
       near = omega (arith, c.start_of-to.ensures, mul-lt p.row p.width 65536 65536 c.args.frame.now.row_fits c.args.frame.now.width_fits);
-      within = reach c.args.frame.now.tables c.args.frame.now.ample (omega (arith, m, s.columns, c.start_of-to.ensures));
+      within = reach c.args.frame.now.tables c.requires.ample (omega (arith, m, s.columns, c.start_of-to.ensures));
     }
 
 pub returns-clause-made : goal.returns-clause-made
