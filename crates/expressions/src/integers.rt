@@ -10,6 +10,7 @@ ghost use Rattle.meaning.specs.Values.{known, scalar_of, within};
 ghost use Rattle.meaning.specs.Works.{guards};
 ghost use Rattle.tables.specs.Frames.{Covers, values, Makes, Stays};
 
+use element::cells::join;
 use fault::Fault;
 use meaning::{Layout, Place};
 use source::StreamState;
@@ -67,9 +68,8 @@ pub fn interval_row(frame: &mut Frame, a: u16, b: u16) -> Result<Layout, Fault>
         bounds,
         true,
     )?;
-    frame
-        .tables
-        .join(Kind::Integer, low, 1, high, 1, place.start_of(place.row));
+    let tables = &mut frame.tables;
+    join(tables.integers, low, 1, high, 1, place.start_of(place.row));
     Ok(form)
 }
 

@@ -1,14 +1,11 @@
-use Rattle.std.proofs.Common.{◌++◌, refl, ◌∙◌, arith}
-use Rattle.types.specs.declared.kinds.Kind.TheVariants.{Integer}
-use Rattle.element.specs.Cells.{cells}
+use Rattle.std.proofs.Common.{refl, ◌∙◌, arith}
 use Rattle.meaning.specs.Expressions.{interval}
 use Rattle.meaning.specs.States.{value_from}
 use Rattle.meaning.proofs.Shells.{refused_2, made_2}
 use Rattle.meaning.proofs.Rows.{under_all}
 use Rattle.expressions.proofs.Bounding.{interval_guard, interval_elements}
-use Rattle.expressions.proofs.Writing.{changed_made}
+use Rattle.expressions.proofs.Writing.{value_made}
 use Rattle.tables.specs.Lent.{held}
-use Rattle.tables.proofs.Reaching.{reach}
 use Rattle.expressions.proofs.integers.interval_row.Goals as goal
 
 pub is_upward-requires : goal.is_upward-requires
@@ -34,7 +31,7 @@ join-requires c =
     record {
       left = omega (arith, l, c.start_of-low.ensures, c.start_of.ensures, c.requires.wide);
       right = omega (arith, r, c.start_of-high.ensures, c.start_of.ensures, c.requires.wide);
-      within = reach c.args.frame.now.tables c.requires.ample (omega (arith, c.start_of.ensures, c.requires.wide));
+      within = omega (arith, c.start_of.ensures, c.requires.ample, c.requires.wide);
     }
 
 pub returns-clause-made : goal.returns-clause-made
@@ -49,5 +46,4 @@ returns-clause-made c =
     let e = interval_elements p t c.args.a c.args.b x y c.in_ok-x.ensures.lawful c.in_ok-y.ensures.lawful c.start_of-low.result c.start_of-high.result c.start_of-low.ensures c.start_of-high.ensures c.in_ok-form.form g
     (omega (arith, l, c.start_of-low.ensures, c.requires.ample, c.requires.wide)) (omega (arith, r, c.start_of-high.ensures, c.requires.ample, c.requires.wide)) in
     made_2 p c.args.frame.now.slips.now t _ _ c.args.a c.args.b interval x y c.in_ok-x.ensures.is c.in_ok-y.ensures.is
-    (changed_made p t _ (interval (value_from p.width t c.args.a x) (value_from p.width t c.args.b y)) c.in_ok-form.form g refl Integer c.start_of.result
-    (λ k T. cells T c.start_of-low.result 1 ++ cells T c.start_of-high.result 1) refl e c.start_of.ensures c.join.ensures.value)
+    (value_made p t (interval (value_from p.width t c.args.a x) (value_from p.width t c.args.b y)) c.in_ok-form.form g refl _ c.start_of.result _ e c.start_of.ensures c.join.ensures)
