@@ -1,7 +1,7 @@
 use Rattle.types.specs.declared.kinds.Kind.TheVariants.{Boolean, Character, Integer}
 use Rattle.tables.specs.Lent.{held}
 use Rattle.tables.proofs.Shaping.{printed_in}
-use Rattle.tables.proofs.lent.Tables.print.Goals as goal
+use Rattle.tables.proofs.lent.Tables.end_of_print.Goals as goal
 
 pub returns-in-Boolean : goal.returns-in-Boolean
 returns-in-Boolean c =
