@@ -65,31 +65,6 @@ fn read_cell<E: Element + Readable, S: Source>(
 }
 
 impl Tables<'_> {
-    /// Where the text ends that `print` writes, if it fits.
-    fn end_of_print(
-        &self,
-        kind: Kind,
-        shape: Shape,
-        r: usize,
-        s: usize,
-        at: usize,
-        output: &mut [u8],
-        printed: usize,
-    ) -> Option<usize>
-        requires fixed { fixed (layout_of kind shape r s) ≡ true }
-        requires rows { r ≤ 1024 }
-        requires columns { s ≤ 1024 }
-        requires place { printed ≤ length output.old }
-        requires within { Reach (at + r * s) (held self.now) }
-        ensures { Printed (shape_text shape kind r s (cells (table_of kind (held self.now)) at (r * s))) output.old printed result output.new }
-    {
-        match kind {
-            Kind::Boolean => print_cells(shape, r, s, at, output, printed, self.booleans),
-            Kind::Character => print_cells(shape, r, s, at, output, printed, self.characters),
-            Kind::Integer => print_cells(shape, r, s, at, output, printed, self.integers),
-        }
-    }
-
     /// Prints a value of this kind and shape, whose r × s cells begin at `at`, behind what is printed, and says whether its text fits. Of an interval it prints nothing.
     pub fn print(
         &self,
@@ -107,7 +82,14 @@ impl Tables<'_> {
         ensures prints { Prints (shape_text shape kind r s (cells (table_of kind (held self.now)) at (r * s))) output.old result output.new }
         ensures goes { Goes output.old output.new }
     {
-        match self.end_of_print(kind, shape, r, s, at, output.bytes, output.printed) {
+        let bytes = &mut *output.bytes;
+        let from = output.printed;
+        let end = match kind {
+            Kind::Boolean => print_cells(shape, r, s, at, bytes, from, self.booleans),
+            Kind::Character => print_cells(shape, r, s, at, bytes, from, self.characters),
+            Kind::Integer => print_cells(shape, r, s, at, bytes, from, self.integers),
+        };
+        match end {
             Some(end) => {
                 output.printed = end;
                 true

@@ -1,6 +1,6 @@
 use Rattle.std.proofs.Common.{arith}
 use Rattle.meaning.proofs.Rows.{lawful_fixed, lawful_small, under_all}
-use Rattle.statements.proofs.Flowing.{print_stuck, print_some, print_none}
+use Rattle.statements.proofs.Flowing.{print_stuck}
 use Rattle.tables.proofs.Reaching.{reach}
 use Rattle.tables.specs.Lent.{held}
 use Rattle.statements.proofs.streams.print_row.Goals as goal
@@ -25,4 +25,3 @@ print-requires c =
       columns = omega (arith, small.columns, c.requires.width);
       within = reach c.args.frame.now.tables c.args.frame.now.ample (omega (arith, small.elements, u, start));
     }
-
