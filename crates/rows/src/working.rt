@@ -8,6 +8,7 @@ ghost use Rattle.statements.specs.Frames.{state_of};
 ghost use Rattle.rows.specs.Working.{Expresses};
 ghost use Rattle.tables.specs.Frames.{Lasts};
 ghost use Rattle.tables.specs.Lent.{held};
+ghost use Rattle.tables.specs.Outputs.{Goes};
 
 use crate::changing::change_row;
 use checker::Line;
@@ -18,7 +19,7 @@ use meaning::After;
 use source::{Source, StreamState};
 use statements::control::control_row;
 use statements::settle::settle;
-use tables::Frame;
+use tables::{Frame, Intake, Output};
 use types::Typing;
 
 /// What check passed at a row.
@@ -48,28 +49,23 @@ pub fn work<S: Source>(
     lines: &[Line],
     head: Typing,
     source: &mut S,
-    taken: &mut u32,
-    stream: &mut StreamState,
-    output: &mut [u8],
-    printed: &mut usize,
+    intake: &mut Intake,
+    output: &mut Output,
 ) -> Result<After, Fault>
     requires sheet { Structured lines.now frame.old.place.width head }
     requires inside { frame.old.place.row < length lines.now }
     requires wide { 1 < frame.old.place.width }
     requires width { frame.old.place.width ≤ 1024 }
     requires row { frame.old.place.row < length frame.old.slips.now }
-    requires room { printed.old ≤ length output.old }
-    ensures acts { Acts frame.old.place.width frame.old.place.row frame.old.place.line (state_of taken.old stream.old frame.old.slips.now (held frame.old.tables) (S.waiting source.old) output.old printed.old) head lines.now (at lines.now frame.old.place.row).target (at lines.now frame.old.place.row).instruction result (state_of taken.new stream.new frame.new.slips.now (held frame.new.tables) (S.waiting source.new) output.new printed.new) }
-    ensures room { printed.new ≤ length output.new }
+    ensures acts { Acts frame.old.place.width frame.old.place.row frame.old.place.line (state_of intake.old.taken intake.old.stream frame.old.slips.now (held frame.old.tables) (S.waiting source.old) output.old.bytes.now output.old.printed) head lines.now (at lines.now frame.old.place.row).target (at lines.now frame.old.place.row).instruction result (state_of intake.new.taken intake.new.stream frame.new.slips.now (held frame.new.tables) (S.waiting source.new) output.new.bytes.now output.new.printed) }
+    ensures goes { Goes output.old output.new }
     ensures lasts { Lasts frame.old frame.new }
 {
     let place = frame.place;
     let line = line_of(lines, place.row);
     match line.instruction {
-        Instruction::Expression(expression) => express(frame, expression, *stream),
-        Instruction::Change(change) => change_row(
-            frame, head, change, source, taken, stream, output, printed,
-        ),
+        Instruction::Expression(expression) => express(frame, expression, intake.stream),
+        Instruction::Change(change) => change_row(frame, head, change, source, intake, output),
         Instruction::Control(control) => control_row(frame, lines, control, line.target),
     }
 }

@@ -1,20 +1,18 @@
 -- Rows that print, and rows that read.
-use Rattle.std.proofs.Common.{◌≡◌, ℕ, ◌+◌, ◌*◌, true, false, not, leb, List, [], ◌∷◌, length, Some, None, Ok, Err, sym, ap, ◌∙◌, subst}
-use Rattle.std.proofs.lemmas.Bool.{cond-true, cond-false, le-leb, lt-leb}
+use Rattle.std.proofs.Common.{◌≡◌, ℕ, ◌+◌, ◌*◌, true, false, not, List, [], ◌∷◌, Some, Ok, Err, sym, ap, ◌∙◌}
+use Rattle.std.proofs.lemmas.Bool.{cond-true, cond-false}
 use Rattle.types.specs.declared.kinds.Shape.TheVariants.{Scalar, Interval}
 use Rattle.types.specs.Typings.{is, flat}
 use Rattle.source.specs.declared.state.StreamState.{StreamState}
 use Rattle.source.specs.Taking.{counted, gone}
 use Rattle.fault.specs.declared.causes.Cause.TheVariants.{NoRule}
 use Rattle.fault.specs.declared.faults.Fault.{Fault}
-use Rattle.element.specs.Cells.{cells, put}
-use Rattle.print.specs.Texts.{Printed}
-use Rattle.meaning.specs.declared.after.After.TheVariants.{Row, Wait}
+use Rattle.element.specs.Cells.{put}
+use Rattle.meaning.specs.declared.after.After.TheVariants.{Row}
 use Rattle.meaning.specs.declared.layouts.Layout.{Layout}
 use Rattle.meaning.specs.declared.places.Place.{Place}
 use Rattle.meaning.specs.declared.slips.Slip.{Slip}
 use Rattle.meaning.specs.Values.{Value, known}
-use Rattle.meaning.specs.Texts.{shape_text, text}
 use Rattle.meaning.specs.Reading as words
 use Rattle.meaning.specs.States.{State, Tables, table_of, with_table, layout_at, value_from}
 use Rattle.meaning.specs.Acts.{step, prints, reads}
@@ -36,23 +34,6 @@ module _ (p : Place) (s : State) (slips : List Slip) (t : Tables) (a : ℕ) (x :
 
     pub print_stuck : (f : Fault) → f ≡ fault_at p NoRule 0 → true ≡ is Interval (known x) → step (Err f) shown ≡ outputting p a shown
     print_stuck f e bad = ap (λ (g : Fault). step (Err g) shown) e ∙ sym (at_value ∙ cond-false (flat (known x)) _ _ (ap not (sym bad)))
-
-    -- the text that is printed is the value's
-    module _ (good : false ≡ is Interval (known x)) (at : ℕ) (start : at ≡ a * p.width) where
-      abbrev bytes : ℕ → List ℕ
-      bytes n = shape_text x.shape x.kind x.r x.s (cells (table_of x.kind t) n (x.r * x.s))
-
-      pub print_some : (out : List ℕ) (end : ℕ) → Printed (bytes at) output printed (Some end) out → step (Ok (Row (p.row + 1))) (showing s slips t out end) ≡ outputting p a shown
-      print_some out end m =
-          let q = subst (λ (n : ℕ). Printed (bytes n) output printed (Some end) out) start m in
-          (λ i. step (Ok (Row (p.row + 1))) (showing s slips t (q.2 i) (q.1 i)))
-          ∙ sym (at_value ∙ cond-true (flat (known x)) _ _ (ap not (sym good)) ∙ cond-true (leb (printed + length (text v)) (length output)) _ _ (le-leb (printed + length (text v)) (length output) q.0))
-
-      pub print_none : (out : List ℕ) → Printed (bytes at) output printed None out → step (Ok Wait) (showing s slips t out printed) ≡ outputting p a shown
-      print_none out m =
-          let q = subst (λ (n : ℕ). Printed (bytes n) output printed None out) start m in
-          ap (λ (o : List ℕ). step (Ok Wait) (showing s slips t o printed)) q.1
-          ∙ sym (at_value ∙ cond-true (flat (known x)) _ _ (ap not (sym good)) ∙ cond-false (leb (printed + length (text v)) (length output)) _ _ (lt-leb (printed + length (text v)) (length output) q.0))
 
   -- ---- read
   module _ (taken : ℕ) (stream : StreamState) (waiting : List ℕ) where

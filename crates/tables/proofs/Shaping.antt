@@ -50,8 +50,11 @@ shaped k Vector r s xs = refl
 shaped k Matrix r s xs = refl
 shaped k Interval r s xs = refl
 
--- a print from the table of a kind l, where k is that kind
-pub printed_in : (k l : Kind) (t : Tables) (x : Shape) (r s at : ℕ) (output : List ℕ) (printed : ℕ) (o : Option ℕ) (output' : List ℕ) → k ≡ l → Printed (shaped_text x (cell_text l) (null_of l) r s (cells (table_of l t) at (r * s))) output printed o output' → Printed (shape_text x k r s (cells (table_of k t) at (r * s))) output printed o output'
-printed_in k l t x r s at output printed o output' e h =
-    subst (λ (b : List ℕ). Printed b output printed o output')
-    (shaped l x r s (cells (table_of l t) at (r * s)) ∙ ap (λ (m : Kind). shape_text x m r s (cells (table_of m t) at (r * s))) (sym e)) h
+-- a print from the table of a kind l, where k is that kind, as it is told
+pub printed_in : (k l : Kind) (t : Tables) (x : Shape) (r s at : ℕ) (output : List ℕ) (printed : ℕ) (o told : Option ℕ) (left seen : List ℕ) → k ≡ l → Printed (shaped_text x (cell_text l) (null_of l) r s (cells (table_of l t) at (r * s))) output printed o left → told ≡ o → seen ≡ left → Printed (shape_text x k r s (cells (table_of k t) at (r * s))) output printed told seen
+printed_in k l t x r s at output printed o told left seen e h eo el =
+    let same : shaped_text x (cell_text l) (null_of l) r s (cells (table_of l t) at (r * s)) ≡ shape_text x k r s (cells (table_of k t) at (r * s)) =
+    shaped l x r s (cells (table_of l t) at (r * s)) ∙ ap (λ (m : Kind). shape_text x m r s (cells (table_of m t) at (r * s))) (sym e) in
+    subst (λ (b : List ℕ). Printed b output printed told seen) same
+    (subst (λ (p : Option ℕ). Printed (shaped_text x (cell_text l) (null_of l) r s (cells (table_of l t) at (r * s))) output printed p seen) (sym eo)
+    (subst (λ (ys : List ℕ). Printed (shaped_text x (cell_text l) (null_of l) r s (cells (table_of l t) at (r * s))) output printed o ys) (sym el) h))

@@ -1,3 +1,4 @@
 pub mod Frames
 pub mod Lent
+pub mod Outputs
 pub mod Shapes

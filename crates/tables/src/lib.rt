@@ -5,9 +5,13 @@ mod casts;
 mod equality;
 mod frames;
 mod indices;
+mod intakes;
 mod lent;
 mod moves;
+mod outputs;
 mod streams;
 
 pub use frames::Frame;
+pub use intakes::Intake;
 pub use lent::Tables;
+pub use outputs::Output;

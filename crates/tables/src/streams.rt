@@ -11,8 +11,11 @@ ghost use Rattle.source.specs.States.{state_of};
 ghost use Rattle.source.specs.Taking.{gone, counted};
 ghost use Rattle.tables.specs.Shapes.{shaped_text};
 ghost use Rattle.tables.specs.Lent.{held, Kept, Reach};
+ghost use Rattle.tables.specs.Outputs.{Goes, Prints};
 
+use crate::intakes::Intake;
 use crate::lent::Tables;
+use crate::outputs::Output;
 use element::Element;
 use print::{print_matrix, print_scalar, print_vector};
 use source::{Readable, Source, StreamState};
@@ -43,27 +46,26 @@ fn print_cells<E: Element>(
     }
 }
 
-/// Reads a value from the source into the cell `to` of one table, the null where none is read, and says how the read went.
+/// Reads a value from the source into the cell `to` of one table, the null where none is read, and notes in the intake how the read went.
 fn read_cell<E: Element + Readable, S: Source>(
     source: &mut S,
-    taken: &mut u32,
+    intake: &mut Intake,
     table: &mut [E],
     to: usize,
-) -> StreamState
+)
     requires { to < length table.old }
     ensures written { table.new ≡ put table.old to (result_unwrap_or (E.Readable.read_of (S.waiting source.old)) E.Element.NULL ∷ []) }
-    ensures told { result ≡ state_of (E.Readable.read_of (S.waiting source.old)) }
+    ensures told { intake.new.stream ≡ state_of (E.Readable.read_of (S.waiting source.old)) }
     ensures waits { S.waiting source.new ≡ E.Readable.left_by (S.waiting source.old) }
-    ensures took { taken.new ≡ counted taken.old (gone (S.waiting source.old) (S.waiting source.new)) }
+    ensures took { intake.new.taken ≡ counted intake.old.taken (gone (S.waiting source.old) (S.waiting source.new)) }
 {
-    let read = E::read(source, taken);
-    let state = StreamState::from(&read);
+    let read = E::read(source, &mut intake.taken);
+    intake.stream = StreamState::from(&read);
     table[to] = read.unwrap_or(E::NULL);
-    state
 }
 
 impl Tables<'_> {
-    /// Prints a value of this kind and shape, whose r × s cells begin at `at`, into the output from `printed` on, and says where its text ends. Of an interval it prints nothing.
+    /// Prints a value of this kind and shape, whose r × s cells begin at `at`, behind what is printed, and says whether its text fits. Of an interval it prints nothing.
     pub fn print(
         &self,
         kind: Kind,
@@ -71,42 +73,44 @@ impl Tables<'_> {
         r: usize,
         s: usize,
         at: usize,
-        output: &mut [u8],
-        printed: usize,
-    ) -> Option<usize>
+        output: &mut Output,
+    ) -> bool
         requires fixed { fixed (layout_of kind shape r s) ≡ true }
         requires rows { r ≤ 1024 }
         requires columns { s ≤ 1024 }
-        requires place { printed ≤ length output.old }
         requires within { Reach (at + r * s) (held self.now) }
-        ensures { Printed (shape_text shape kind r s (cells (table_of kind (held self.now)) at (r * s))) output.old printed result output.new }
+        ensures prints { Prints (shape_text shape kind r s (cells (table_of kind (held self.now)) at (r * s))) output.old result output.new }
+        ensures goes { Goes output.old output.new }
     {
-        match kind {
-            Kind::Boolean => print_cells(shape, r, s, at, output, printed, self.booleans),
-            Kind::Character => print_cells(shape, r, s, at, output, printed, self.characters),
-            Kind::Integer => print_cells(shape, r, s, at, output, printed, self.integers),
+        let bytes = &mut *output.bytes;
+        let from = output.printed;
+        let end = match kind {
+            Kind::Boolean => print_cells(shape, r, s, at, bytes, from, self.booleans),
+            Kind::Character => print_cells(shape, r, s, at, bytes, from, self.characters),
+            Kind::Integer => print_cells(shape, r, s, at, bytes, from, self.integers),
+        };
+        match end {
+            Some(end) => {
+                output.printed = end;
+                true
+            }
+            None => false,
         }
     }
 
-    /// Reads a value of a kind from the source into the cell `to`, and says how the read went.
-    pub fn read<S: Source>(
-        &mut self,
-        kind: Kind,
-        source: &mut S,
-        taken: &mut u32,
-        to: usize,
-    ) -> StreamState
+    /// Reads a value of a kind from the source into the cell `to`, and notes in the intake how the read went.
+    pub fn read<S: Source>(&mut self, kind: Kind, source: &mut S, intake: &mut Intake, to: usize)
         requires within { Reach (to + 1) (held self.old) }
         ensures written { held self.new ≡ with_table kind (held self.old) (put (table_of kind (held self.old)) to ((reading kind (S.waiting source.old)).value ∷ [])) }
-        ensures told { result ≡ (reading kind (S.waiting source.old)).state }
+        ensures told { intake.new.stream ≡ (reading kind (S.waiting source.old)).state }
         ensures waits { S.waiting source.new ≡ unread kind (S.waiting source.old) }
-        ensures took { taken.new ≡ counted taken.old (gone (S.waiting source.old) (S.waiting source.new)) }
+        ensures took { intake.new.taken ≡ counted intake.old.taken (gone (S.waiting source.old) (S.waiting source.new)) }
         ensures lent { Kept self.old self.new }
     {
         match kind {
-            Kind::Boolean => read_cell(source, taken, self.booleans, to),
-            Kind::Character => read_cell(source, taken, self.characters, to),
-            Kind::Integer => read_cell(source, taken, self.integers, to),
+            Kind::Boolean => read_cell(source, intake, self.booleans, to),
+            Kind::Character => read_cell(source, intake, self.characters, to),
+            Kind::Integer => read_cell(source, intake, self.integers, to),
         }
     }
 }

@@ -1,5 +1,5 @@
 -- Each arm is one of the changes, in the whole state.
-use Rattle.std.proofs.Common.{◌≡◌, List, sym, subst, rules}
+use Rattle.std.proofs.Common.{◌≡◌, List, sym, subst}
 use Rattle.instruction.specs.declared.instructions.Change.TheVariants as change
 use Rattle.meaning.specs.declared.slips.Slip.{Slip}
 use Rattle.meaning.specs.Acts.{step}
@@ -9,66 +9,38 @@ use Rattle.tables.specs.Lent.{held}
 use Rattle.tables.proofs.Staying.{same_slips}
 use Rattle.rows.proofs.changing.change_row.Goals as goal
 
-pub returns-in-Declare : goal.returns-in-Declare
-returns-in-Declare g c =
-    let here = state_of c.args.taken.now c.args.stream.now c.args.frame.now.slips.now (held c.args.frame.now.tables) (g.S.Source.waiting c.args.source.now) c.args.output.now c.args.printed.now in
-    record {
-      does = by_change c.args.frame.now.place c.args.head c.args.change (change.Declare c.in-Declare.written c.in-Declare.start) here _ c.in-Declare.is (c.declare.ensures.value here);
-      room = c.requires.room;
-      lasts = search rules;
-    }
+pub returns-in-Declare-clause-does : goal.returns-in-Declare-clause-does
+returns-in-Declare-clause-does g c =
+    let here = state_of c.args.intake.now.taken c.args.intake.now.stream c.args.frame.now.slips.now (held c.args.frame.now.tables) (g.S.Source.waiting c.args.source.now) c.args.output.now.bytes.now c.args.output.now.printed in
+    by_change c.args.frame.now.place c.args.head c.args.change (change.Declare c.in-Declare.written c.in-Declare.start) here _ c.in-Declare.is (c.declare.ensures.value here)
 
-pub returns-in-Assign : goal.returns-in-Assign
-returns-in-Assign g c =
-    let here = state_of c.args.taken.now c.args.stream.now c.args.frame.now.slips.now (held c.args.frame.now.tables) (g.S.Source.waiting c.args.source.now) c.args.output.now c.args.printed.now in
-    record {
-      does = by_change c.args.frame.now.place c.args.head c.args.change (change.Assign c.in-Assign.v c.in-Assign.a) here _ c.in-Assign.is (c.assign.ensures.value c.args.head here);
-      room = c.requires.room;
-      lasts = search rules;
-    }
+pub returns-in-Assign-clause-does : goal.returns-in-Assign-clause-does
+returns-in-Assign-clause-does g c =
+    let here = state_of c.args.intake.now.taken c.args.intake.now.stream c.args.frame.now.slips.now (held c.args.frame.now.tables) (g.S.Source.waiting c.args.source.now) c.args.output.now.bytes.now c.args.output.now.printed in
+    by_change c.args.frame.now.place c.args.head c.args.change (change.Assign c.in-Assign.v c.in-Assign.a) here _ c.in-Assign.is (c.assign.ensures.value c.args.head here)
 
-pub returns-in-Store : goal.returns-in-Store
-returns-in-Store g c =
-    let here = state_of c.args.taken.now c.args.stream.now c.args.frame.now.slips.now (held c.args.frame.now.tables) (g.S.Source.waiting c.args.source.now) c.args.output.now c.args.printed.now in
-    record {
-      does = by_change c.args.frame.now.place c.args.head c.args.change (change.Store c.in-Store.v c.in-Store.b c.in-Store.c) here _ c.in-Store.is (c.store.ensures.value c.args.head here);
-      room = c.requires.room;
-      lasts = search rules;
-    }
+pub returns-in-Store-clause-does : goal.returns-in-Store-clause-does
+returns-in-Store-clause-does g c =
+    let here = state_of c.args.intake.now.taken c.args.intake.now.stream c.args.frame.now.slips.now (held c.args.frame.now.tables) (g.S.Source.waiting c.args.source.now) c.args.output.now.bytes.now c.args.output.now.printed in
+    by_change c.args.frame.now.place c.args.head c.args.change (change.Store c.in-Store.v c.in-Store.b c.in-Store.c) here _ c.in-Store.is (c.store.ensures.value c.args.head here)
 
-pub returns-in-StoreTwo : goal.returns-in-StoreTwo
-returns-in-StoreTwo g c =
-    let here = state_of c.args.taken.now c.args.stream.now c.args.frame.now.slips.now (held c.args.frame.now.tables) (g.S.Source.waiting c.args.source.now) c.args.output.now c.args.printed.now in
-    record {
-      does = by_change c.args.frame.now.place c.args.head c.args.change (change.StoreTwo c.in-StoreTwo.v c.in-StoreTwo.b c.in-StoreTwo.c c.in-StoreTwo.d) here _ c.in-StoreTwo.is (c.store_two.ensures.value c.args.head here);
-      room = c.requires.room;
-      lasts = search rules;
-    }
+pub returns-in-StoreTwo-clause-does : goal.returns-in-StoreTwo-clause-does
+returns-in-StoreTwo-clause-does g c =
+    let here = state_of c.args.intake.now.taken c.args.intake.now.stream c.args.frame.now.slips.now (held c.args.frame.now.tables) (g.S.Source.waiting c.args.source.now) c.args.output.now.bytes.now c.args.output.now.printed in
+    by_change c.args.frame.now.place c.args.head c.args.change (change.StoreTwo c.in-StoreTwo.v c.in-StoreTwo.b c.in-StoreTwo.c c.in-StoreTwo.d) here _ c.in-StoreTwo.is (c.store_two.ensures.value c.args.head here)
 
-pub returns-in-Print : goal.returns-in-Print
-returns-in-Print g c =
-    let here = state_of c.args.taken.now c.args.stream.now c.args.frame.now.slips.now (held c.args.frame.now.tables) (g.S.Source.waiting c.args.source.now) c.args.output.now c.args.printed.now in
-    record {
-      does = by_change c.args.frame.now.place c.args.head c.args.change (change.Print c.in-Print.a) here _ c.in-Print.is (c.print_row.ensures.row here);
-      room = c.print_row.ensures.room;
-      lasts = search rules;
-    }
+pub returns-in-Print-clause-does : goal.returns-in-Print-clause-does
+returns-in-Print-clause-does g c =
+    let here = state_of c.args.intake.now.taken c.args.intake.now.stream c.args.frame.now.slips.now (held c.args.frame.now.tables) (g.S.Source.waiting c.args.source.now) c.args.output.now.bytes.now c.args.output.now.printed in
+    by_change c.args.frame.now.place c.args.head c.args.change (change.Print c.in-Print.a) here _ c.in-Print.is (c.print_row.ensures.row here)
 
-pub returns-in-Read : goal.returns-in-Read
-returns-in-Read g c =
-    let here = state_of c.args.taken.now c.args.stream.now c.args.frame.now.slips.now (held c.args.frame.now.tables) (g.S.Source.waiting c.args.source.now) c.args.output.now c.args.printed.now in
-    record {
-      does = by_change c.args.frame.now.place c.args.head c.args.change (change.Read c.in-Read.v) here _ c.in-Read.is (subst (λ (xs : List Slip). step c.read_row.result (state_of c.read_row.new.taken c.read_row.new.stream xs (held c.read_row.new.frame.tables) (g.S.Source.waiting c.read_row.new.source) c.args.output.now c.args.printed.now) ≡ inputting c.args.frame.now.place c.in-Read.v here)
-          (sym (same_slips c.args.frame.now c.read_row.new.frame c.read_row.ensures.stays)) (c.read_row.ensures.value here));
-      room = c.requires.room;
-      lasts = search rules;
-    }
+pub returns-in-Read-clause-does : goal.returns-in-Read-clause-does
+returns-in-Read-clause-does g c =
+    let here = state_of c.args.intake.now.taken c.args.intake.now.stream c.args.frame.now.slips.now (held c.args.frame.now.tables) (g.S.Source.waiting c.args.source.now) c.args.output.now.bytes.now c.args.output.now.printed in
+    by_change c.args.frame.now.place c.args.head c.args.change (change.Read c.in-Read.v) here _ c.in-Read.is (subst (λ (xs : List Slip). step c.read_row.result (state_of c.read_row.new.intake.taken c.read_row.new.intake.stream xs (held c.read_row.new.frame.tables) (g.S.Source.waiting c.read_row.new.source) c.args.output.now.bytes.now c.args.output.now.printed) ≡ inputting c.args.frame.now.place c.in-Read.v here)
+    (sym (same_slips c.args.frame.now c.read_row.new.frame c.read_row.ensures.stays)) (c.read_row.ensures.value here))
 
-pub returns-in-Return : goal.returns-in-Return
-returns-in-Return g c =
-    let here = state_of c.args.taken.now c.args.stream.now c.args.frame.now.slips.now (held c.args.frame.now.tables) (g.S.Source.waiting c.args.source.now) c.args.output.now c.args.printed.now in
-    record {
-      does = by_change c.args.frame.now.place c.args.head c.args.change (change.Return c.in-Return.a) here _ c.in-Return.is (c.return_row.ensures here here.tables);
-      room = c.requires.room;
-      lasts = search rules;
-    }
+pub returns-in-Return-clause-does : goal.returns-in-Return-clause-does
+returns-in-Return-clause-does g c =
+    let here = state_of c.args.intake.now.taken c.args.intake.now.stream c.args.frame.now.slips.now (held c.args.frame.now.tables) (g.S.Source.waiting c.args.source.now) c.args.output.now.bytes.now c.args.output.now.printed in
+    by_change c.args.frame.now.place c.args.head c.args.change (change.Return c.in-Return.a) here _ c.in-Return.is (c.return_row.ensures here here.tables)

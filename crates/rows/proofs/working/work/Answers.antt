@@ -33,11 +33,11 @@ control_row-requires-clause-ready g c =
 pub returns-in-Expression-clause-acts : goal.returns-in-Expression-clause-acts
 returns-in-Expression-clause-acts g c =
     let a = c.args in
-    let here = state_of a.taken.now a.stream.now a.frame.now.slips.now (held a.frame.now.tables) (g.S.Source.waiting a.source.now) a.output.now a.printed.now in
+    let here = state_of a.intake.now.taken a.intake.now.stream a.frame.now.slips.now (held a.frame.now.tables) (g.S.Source.waiting a.source.now) a.output.now.bytes.now a.output.now.printed in
     acts_by a.frame.now.place a.head a.lines.now c.line_of-line.result (Expression c.in-Expression.expression) here c.express.result _ c.line_of-line.ensures c.in-Expression.is (c.express.ensures.value here)
 
 pub returns-in-Control-clause-acts : goal.returns-in-Control-clause-acts
 returns-in-Control-clause-acts g c =
     let a = c.args in
-    let here = state_of a.taken.now a.stream.now a.frame.now.slips.now (held a.frame.now.tables) (g.S.Source.waiting a.source.now) a.output.now a.printed.now in
+    let here = state_of a.intake.now.taken a.intake.now.stream a.frame.now.slips.now (held a.frame.now.tables) (g.S.Source.waiting a.source.now) a.output.now.bytes.now a.output.now.printed in
     acts_by a.frame.now.place a.head a.lines.now c.line_of-line.result (Control c.in-Control.control) here c.control_row.result _ c.line_of-line.ensures c.in-Control.is (c.control_row.ensures.value here)

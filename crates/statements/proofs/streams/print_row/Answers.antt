@@ -1,19 +1,15 @@
 use Rattle.std.proofs.Common.{arith}
 use Rattle.meaning.proofs.Rows.{lawful_fixed, lawful_small, under_all}
-use Rattle.statements.proofs.Flowing.{print_stuck, print_some, print_none}
+use Rattle.statements.proofs.Flowing.{print_stuck}
 use Rattle.tables.proofs.Reaching.{reach}
 use Rattle.tables.specs.Lent.{held}
 use Rattle.statements.proofs.streams.print_row.Goals as goal
 
-pub returns-then-is : goal.returns-then-is
-returns-then-is c =
+pub returns-then-is-clause-row : goal.returns-then-is-clause-row
+returns-then-is-clause-row c s =
     let g = c.args in
-    record {
-      row = λ s.
-          print_stuck g.frame.now.place s g.frame.now.slips.now (held g.frame.now.tables) g.a c.in_ok-x.x c.in_ok-x.ensures.is g.output.now g.printed.now
-          c.fault.result c.fault.ensures c.if-is.ensures;
-      room = c.requires.room;
-    }
+    print_stuck g.frame.now.place s g.frame.now.slips.now (held g.frame.now.tables) g.a c.in_ok-x.x c.in_ok-x.ensures.is g.output.now.bytes.now g.output.now.printed
+    c.fault.result c.fault.ensures c.if-is.ensures
 
 pub print-requires : goal.print-requires
 print-requires c =
@@ -27,27 +23,5 @@ print-requires c =
       fixed = lawful_fixed W x law;
       rows = omega (arith, small.rows, c.requires.width);
       columns = omega (arith, small.columns, c.requires.width);
-      place = c.requires.room;
       within = reach c.args.frame.now.tables c.args.frame.now.ample (omega (arith, small.elements, u, start));
-    }
-
-pub returns-in-Some : goal.returns-in-Some
-returns-in-Some c =
-    let g = c.args in
-    let done = c.in-Some.ensures in
-    record {
-      row = λ s.
-          print_some g.frame.now.place s g.frame.now.slips.now (held g.frame.now.tables) g.a c.in_ok-x.x c.in_ok-x.ensures.is g.output.now g.printed.now
-          c.if-is.ensures c.start_of-at.result c.start_of-at.ensures c.print.new.output c.in-Some.end done;
-      room = omega (arith, done.0, done.1, c.print.auto.output);
-    }
-
-pub returns-in-None : goal.returns-in-None
-returns-in-None c =
-    let g = c.args in
-    record {
-      row = λ s.
-          print_none g.frame.now.place s g.frame.now.slips.now (held g.frame.now.tables) g.a c.in_ok-x.x c.in_ok-x.ensures.is g.output.now g.printed.now
-          c.if-is.ensures c.start_of-at.result c.start_of-at.ensures c.print.new.output c.in-None.ensures;
-      room = omega (arith, c.requires.room, c.print.auto.output);
     }

@@ -9,7 +9,7 @@ use Rattle.statements.proofs.streams.read_row.Goals as goal
 pub returns-then-not-is-clause-value : goal.returns-then-not-is-clause-value
 returns-then-not-is-clause-value g c s =
     let a = c.args in
-    read_stuck a.frame.now.place s a.frame.now.slips.now (held a.frame.now.tables) a.i c.in_ok-x.x c.in_ok-x.ensures.is a.taken.now a.stream.now (g.S.Source.waiting a.source.now)
+    read_stuck a.frame.now.place s a.frame.now.slips.now (held a.frame.now.tables) a.i c.in_ok-x.x c.in_ok-x.ensures.is a.intake.now.taken a.intake.now.stream (g.S.Source.waiting a.source.now)
     c.fault.result c.fault.ensures c.if-not-is.ensures
 
 pub read-requires : goal.read-requires
@@ -25,6 +25,6 @@ read-requires g c =
 pub returns-clause-value : goal.returns-clause-value
 returns-clause-value g c s =
     let a = c.args in
-    read_value a.frame.now.place s a.frame.now.slips.now (held a.frame.now.tables) a.i c.in_ok-x.x c.in_ok-x.ensures.is a.taken.now a.stream.now (g.S.Source.waiting a.source.now)
+    read_value a.frame.now.place s a.frame.now.slips.now (held a.frame.now.tables) a.i c.in_ok-x.x c.in_ok-x.ensures.is a.intake.now.taken a.intake.now.stream (g.S.Source.waiting a.source.now)
     c.if-not-is.ensures c.start_of-to.result c.start_of-to.ensures
-    c.read.new.taken c.read.result (held c.read.new.self) (g.S.Source.waiting c.read.new.source) c.read.ensures.written c.read.ensures.told c.read.ensures.waits c.read.ensures.took
+    c.read.new.intake.taken c.read.new.intake.stream (held c.read.new.self) (g.S.Source.waiting c.read.new.source) c.read.ensures.written c.read.ensures.told c.read.ensures.waits c.read.ensures.took

@@ -1,19 +1,26 @@
+use Rattle.std.proofs.Common.{sym, refl, ap, ◌∙◌}
 use Rattle.types.specs.declared.kinds.Kind.TheVariants.{Boolean, Character, Integer}
 use Rattle.tables.specs.Lent.{held}
 use Rattle.tables.proofs.Shaping.{printed_in}
 use Rattle.tables.proofs.lent.Tables.print.Goals as goal
+use Rattle.tables.proofs.lent.Tables.print.Goals.{in-Boolean, in-Character, in-Integer}
 
-pub returns-in-Boolean : goal.returns-in-Boolean
-returns-in-Boolean c =
+pub returns-in-Some-clause-prints : goal.returns-in-Some-clause-prints
+returns-in-Some-clause-prints c =
     let a = c.args in
-    printed_in a.kind Boolean (held a.self.now) a.shape a.r a.s a.at a.output.now a.printed c.print_cells.result c.print_cells.new.output c.in-Boolean.is c.print_cells.ensures
+    elim c.match-kind.branch [
+      | in-Boolean w ↦ printed_in a.kind Boolean (held a.self.now) a.shape a.r a.s a.at a.output.now.bytes.now a.output.now.printed w.print_cells-end.result _ w.print_cells-end.new.output _ w.in-Boolean.is w.print_cells-end.ensures (sym c.in-Some.is ∙ w.end-is) (ap (λ o. o.1.0.now) w.output-is)
+      | in-Character w ↦ printed_in a.kind Character (held a.self.now) a.shape a.r a.s a.at a.output.now.bytes.now a.output.now.printed w.print_cells-end-in-Character.result _ w.print_cells-end-in-Character.new.output _ w.in-Character.is w.print_cells-end-in-Character.ensures (sym c.in-Some.is ∙ w.end-is) (ap (λ o. o.1.0.now) w.output-is)
+      | in-Integer w ↦ printed_in a.kind Integer (held a.self.now) a.shape a.r a.s a.at a.output.now.bytes.now a.output.now.printed w.print_cells-end-in-Integer.result _ w.print_cells-end-in-Integer.new.output _ w.in-Integer.is w.print_cells-end-in-Integer.ensures (sym c.in-Some.is ∙ w.end-is) (ap (λ o. o.1.0.now) w.output-is)
+    ]
 
-pub returns-in-Character : goal.returns-in-Character
-returns-in-Character c =
-    let a = c.args in
-    printed_in a.kind Character (held a.self.now) a.shape a.r a.s a.at a.output.now a.printed c.print_cells-in-Character.result c.print_cells-in-Character.new.output c.in-Character.is c.print_cells-in-Character.ensures
-
-pub returns-in-Integer : goal.returns-in-Integer
-returns-in-Integer c =
-    let a = c.args in
-    printed_in a.kind Integer (held a.self.now) a.shape a.r a.s a.at a.output.now a.printed c.print_cells-in-Integer.result c.print_cells-in-Integer.new.output c.in-Integer.is c.print_cells-in-Integer.ensures
+pub returns-in-None-clause-prints : goal.returns-in-None-clause-prints
+returns-in-None-clause-prints c =
+    let a = c.args in (
+      elim c.match-kind.branch [
+        | in-Boolean w ↦ printed_in a.kind Boolean (held a.self.now) a.shape a.r a.s a.at a.output.now.bytes.now a.output.now.printed w.print_cells-end.result _ w.print_cells-end.new.output _ w.in-Boolean.is w.print_cells-end.ensures (sym c.in-None.is ∙ w.end-is) (ap (λ o. o.1.0.now) w.output-is)
+        | in-Character w ↦ printed_in a.kind Character (held a.self.now) a.shape a.r a.s a.at a.output.now.bytes.now a.output.now.printed w.print_cells-end-in-Character.result _ w.print_cells-end-in-Character.new.output _ w.in-Character.is w.print_cells-end-in-Character.ensures (sym c.in-None.is ∙ w.end-is) (ap (λ o. o.1.0.now) w.output-is)
+        | in-Integer w ↦ printed_in a.kind Integer (held a.self.now) a.shape a.r a.s a.at a.output.now.bytes.now a.output.now.printed w.print_cells-end-in-Integer.result _ w.print_cells-end-in-Integer.new.output _ w.in-Integer.is w.print_cells-end-in-Integer.ensures (sym c.in-None.is ∙ w.end-is) (ap (λ o. o.1.0.now) w.output-is)
+      ],
+      refl,
+    )
