@@ -4,7 +4,7 @@ ghost use Rattle.meaning.specs.Acts.{step};
 ghost use Rattle.statements.specs.Frames.{state_of};
 ghost use Rattle.rows.specs.Changing.{Reaches, changing};
 ghost use Rattle.tables.specs.Frames.{Lasts};
-ghost use Rattle.tables.specs.Lent.{held};
+ghost use Rattle.tables.specs.Lent.{held, Holds};
 ghost use Rattle.tables.specs.Outputs.{Goes};
 
 use crate::variables::{assign, declare, store, store_two};
@@ -29,6 +29,7 @@ pub fn change_row<S: Source>(
     requires reaches { Reaches frame.old.place.row change }
     requires width { frame.old.place.width ≤ 1024 }
     requires row { frame.old.place.row < length frame.old.slips.now }
+    requires ample { Holds frame.old.place frame.old.tables }
     ensures does { step result (state_of intake.new.taken intake.new.stream frame.new.slips.now (held frame.new.tables) (S.waiting source.new) output.new.bytes.now output.new.printed) ≡ changing frame.old.place head change (state_of intake.old.taken intake.old.stream frame.old.slips.now (held frame.old.tables) (S.waiting source.old) output.old.bytes.now output.old.printed) }
     ensures goes { Goes output.old output.new }
     ensures lasts { Lasts frame.old frame.new }

@@ -6,7 +6,7 @@ ghost use Rattle.meaning.specs.Values.{within};
 ghost use Rattle.statements.specs.Frames.{InTables, settled};
 ghost use Rattle.rows.specs.Changing.{StartsAfter, start_outcome, beginning, changing, begun};
 ghost use Rattle.tables.specs.Frames.{values, Fills, Lasts, Stays};
-ghost use Rattle.tables.specs.Lent.{held};
+ghost use Rattle.tables.specs.Lent.{held, Holds};
 
 use changes::assigns::assign_row;
 use changes::declares::{declare_nulls, declare_row};
@@ -38,6 +38,7 @@ fn note(place: Place, res: Result<Layout, Fault>, slips: &mut [Slip])
 /// Writes what a declaration gives to its variable.
 fn begin(frame: &mut Frame, w: Type, start: Option<u16>) -> Result<Layout, Fault>
     requires before { StartsAfter frame.old.place.row start }
+    requires ample { Holds frame.old.place frame.old.tables }
     ensures filled { Fills frame.old frame.old.place.row (start_outcome frame.old.place.width (values frame.old) w start) result frame.new }
     ensures within { IfOk result (λ f. within frame.old.place.width f.r f.s ≡ true) }
     ensures stays { Stays frame.old frame.new }
@@ -52,6 +53,7 @@ fn begin(frame: &mut Frame, w: Type, start: Option<u16>) -> Result<Layout, Fault
 pub fn declare(frame: &mut Frame, w: Type, start: Option<u16>) -> Result<After, Fault>
     requires before { StartsAfter frame.old.place.row start }
     requires row { frame.old.place.row < length frame.old.slips.now }
+    requires ample { Holds frame.old.place frame.old.tables }
     ensures value { InTables (beginning frame.old.place w start) frame.old.slips.now (held frame.old.tables) result frame.new.slips.now (held frame.new.tables) }
     ensures lasts { Lasts frame.old frame.new }
 {
@@ -65,6 +67,7 @@ pub fn declare(frame: &mut Frame, w: Type, start: Option<u16>) -> Result<After, 
 pub fn assign(frame: &mut Frame, v: u16, a: u16) -> Result<After, Fault>
     requires before { a < frame.old.place.row }
     requires under { v < a }
+    requires ample { Holds frame.old.place frame.old.tables }
     ensures value { (head : Typing) → InTables (changing frame.old.place head (Assign v a)) frame.old.slips.now (held frame.old.tables) result frame.new.slips.now (held frame.new.tables) }
     ensures stays { Stays frame.old frame.new }
 {
@@ -79,6 +82,7 @@ pub fn store(frame: &mut Frame, v: u16, b: u16, c: u16) -> Result<After, Fault>
     requires value { c < frame.old.place.row }
     requires under_index { v < b }
     requires under_value { v < c }
+    requires ample { Holds frame.old.place frame.old.tables }
     ensures value { (head : Typing) → InTables (changing frame.old.place head (Store v b c)) frame.old.slips.now (held frame.old.tables) result frame.new.slips.now (held frame.new.tables) }
     ensures stays { Stays frame.old frame.new }
 {
@@ -93,6 +97,7 @@ pub fn store_two(frame: &mut Frame, v: u16, b: u16, c: u16, d: u16) -> Result<Af
     requires column { c < frame.old.place.row }
     requires value { d < frame.old.place.row }
     requires before { v < frame.old.place.row }
+    requires ample { Holds frame.old.place frame.old.tables }
     ensures value { (head : Typing) → InTables (changing frame.old.place head (StoreTwo v b c d)) frame.old.slips.now (held frame.old.tables) result frame.new.slips.now (held frame.new.tables) }
     ensures stays { Stays frame.old frame.new }
 {

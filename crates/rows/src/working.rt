@@ -7,7 +7,7 @@ ghost use Rattle.laws.specs.Reads.{make_reads, AllUnder};
 ghost use Rattle.statements.specs.Frames.{state_of};
 ghost use Rattle.rows.specs.Working.{Expresses};
 ghost use Rattle.tables.specs.Frames.{Lasts};
-ghost use Rattle.tables.specs.Lent.{held};
+ghost use Rattle.tables.specs.Lent.{held, Holds};
 ghost use Rattle.tables.specs.Outputs.{Goes};
 
 use crate::changing::change_row;
@@ -35,6 +35,7 @@ fn express(frame: &mut Frame, expression: Expression, stream: StreamState) -> Re
     requires wide { 1 < frame.old.place.width }
     requires reads { AllUnder frame.old.place.row (make_reads expression) }
     requires row { frame.old.place.row < length frame.old.slips.now }
+    requires ample { Holds frame.old.place frame.old.tables }
     ensures value { Expresses frame.old.place expression stream frame.old.slips.now (held frame.old.tables) result frame.new.slips.now (held frame.new.tables) }
     ensures lasts { Lasts frame.old frame.new }
 {
@@ -57,6 +58,7 @@ pub fn work<S: Source>(
     requires wide { 1 < frame.old.place.width }
     requires width { frame.old.place.width ≤ 1024 }
     requires row { frame.old.place.row < length frame.old.slips.now }
+    requires ample { Holds frame.old.place frame.old.tables }
     ensures acts { Acts frame.old.place.width frame.old.place.row frame.old.place.line (state_of intake.old.taken intake.old.stream frame.old.slips.now (held frame.old.tables) (S.waiting source.old) output.old.bytes.now output.old.printed) head lines.now (at lines.now frame.old.place.row).target (at lines.now frame.old.place.row).instruction result (state_of intake.new.taken intake.new.stream frame.new.slips.now (held frame.new.tables) (S.waiting source.new) output.new.bytes.now output.new.printed) }
     ensures goes { Goes output.old output.new }
     ensures lasts { Lasts frame.old frame.new }

@@ -1,5 +1,5 @@
 //! Rows that go one way or another by a condition.
-ghost use Rattle.std.specs.Prelude.{◌<◌};
+ghost use Rattle.std.specs.Prelude.{◌<◌, ◌≤◌, ◌+◌, ◌*◌, length};
 ghost use Rattle.statements.specs.Frames.{InTables, branching};
 ghost use Rattle.tables.specs.Lent.{held};
 
@@ -11,6 +11,7 @@ use types::Kind;
 /// An if or a test: on at the next row where the value of row a is true, and at the row after the target where it is false.
 pub fn branch(frame: &Frame, a: u16, target: u16) -> Result<After, Fault>
     requires before { a < frame.now.place.row }
+    requires ample { frame.now.place.row * frame.now.place.width ≤ length frame.now.tables.booleans.now }
     ensures { InTables (branching frame.now.place a target) frame.now.slips.now (held frame.now.tables) result frame.now.slips.now (held frame.now.tables) }
 {
     let place = frame.place;

@@ -3,7 +3,7 @@ ghost use Rattle.std.specs.Prelude.{◌<◌, length};
 ghost use Rattle.statements.specs.Frames.{InTables, resuming, reopening, turning};
 ghost use Rattle.statements.specs.Ready.{TurnDomain, DomainBefore, Ready};
 ghost use Rattle.tables.specs.Frames.{Lasts};
-ghost use Rattle.tables.specs.Lent.{held};
+ghost use Rattle.tables.specs.Lent.{held, Holds};
 
 use crate::conditions::branch;
 use crate::each::{advance, resume_each};
@@ -18,6 +18,7 @@ fn resume(frame: &mut Frame, i: u16, control: Control) -> Result<After, Fault>
     requires earlier { i < frame.old.place.row }
     requires domain { TurnDomain i control }
     requires slip { frame.old.place.row < length frame.old.slips.now }
+    requires ample { Holds frame.old.place frame.old.tables }
     ensures value { InTables (resuming frame.old.place i control) frame.old.slips.now (held frame.old.tables) result frame.new.slips.now (held frame.new.tables) }
     ensures lasts { Lasts frame.old frame.new }
 {
@@ -39,6 +40,7 @@ fn reopen(frame: &mut Frame, i: u16, instruction: Instruction) -> Result<After, 
     requires earlier { i < frame.old.place.row }
     requires domain { DomainBefore i instruction }
     requires slip { frame.old.place.row < length frame.old.slips.now }
+    requires ample { Holds frame.old.place frame.old.tables }
     ensures value { InTables (reopening frame.old.place i instruction) frame.old.slips.now (held frame.old.tables) result frame.new.slips.now (held frame.new.tables) }
     ensures lasts { Lasts frame.old frame.new }
 {
@@ -60,6 +62,7 @@ pub fn control_row(
 ) -> Result<After, Fault>
     requires ready { Ready lines.now frame.old.place.row target control }
     requires slip { frame.old.place.row < length frame.old.slips.now }
+    requires ample { Holds frame.old.place frame.old.tables }
     ensures value { InTables (turning frame.old.place lines.now target control) frame.old.slips.now (held frame.old.tables) result frame.new.slips.now (held frame.new.tables) }
     ensures lasts { Lasts frame.old frame.new }
 {

@@ -3,7 +3,7 @@ ghost use Rattle.std.specs.Prelude.{◌≡◌, ◌+◌, ◌<◌, ◌≤◌, leng
 ghost use Rattle.statements.specs.Domains.{ranged, ElementBelow, with_element};
 ghost use Rattle.statements.specs.Frames.{InTables, advancing, repeating};
 ghost use Rattle.tables.specs.Frames.{Lasts};
-ghost use Rattle.tables.specs.Lent.{held, Kept, Reach};
+ghost use Rattle.tables.specs.Lent.{held, Kept, Reach, Holds};
 
 use expressions::lists::{is_orderly, list_at};
 use fault::{Cause, Fault};
@@ -39,6 +39,7 @@ pub fn advance(frame: &mut Frame, i: u16, a: u16, end: u16, n: usize) -> Result<
     requires domain { a < i }
     requires upto { i ≤ frame.old.place.row }
     requires slip { i < length frame.old.slips.now }
+    requires ample { Holds frame.old.place frame.old.tables }
     ensures value { InTables (advancing frame.old.place i a end n) frame.old.slips.now (held frame.old.tables) result frame.new.slips.now (held frame.new.tables) }
     ensures lasts { Lasts frame.old frame.new }
 {
@@ -66,6 +67,7 @@ pub fn resume_each(frame: &mut Frame, i: u16, a: u16, end: u16) -> Result<After,
     requires domain { a < i }
     requires upto { i ≤ frame.old.place.row }
     requires slip { i < length frame.old.slips.now }
+    requires ample { Holds frame.old.place frame.old.tables }
     ensures value { InTables (repeating frame.old.place i a end) frame.old.slips.now (held frame.old.tables) result frame.new.slips.now (held frame.new.tables) }
     ensures lasts { Lasts frame.old frame.new }
 {

@@ -2,7 +2,7 @@
 ghost use Rattle.std.specs.Prelude.{◌<◌, ◌≤◌};
 ghost use Rattle.statements.specs.Frames.{InOutput, FromSource, outputting, inputting};
 ghost use Rattle.tables.specs.Frames.{Stays};
-ghost use Rattle.tables.specs.Lent.{held};
+ghost use Rattle.tables.specs.Lent.{held, Holds};
 ghost use Rattle.tables.specs.Outputs.{Goes};
 
 use fault::{Cause, Fault};
@@ -15,6 +15,7 @@ use types::Shape;
 pub fn print_row(frame: &Frame, a: u16, output: &mut Output) -> Result<After, Fault>
     requires before { a < frame.now.place.row }
     requires width { frame.now.place.width ≤ 1024 }
+    requires ample { Holds frame.now.place frame.now.tables }
     ensures row { InOutput (outputting frame.now.place a) frame.now.slips.now (held frame.now.tables) output.old.bytes.now output.old.printed result output.new.bytes.now output.new.printed }
     ensures goes { Goes output.old output.new }
 {
@@ -39,6 +40,7 @@ pub fn read_row<S: Source>(
     intake: &mut Intake,
 ) -> Result<After, Fault>
     requires before { i < frame.old.place.row }
+    requires ample { Holds frame.old.place frame.old.tables }
     ensures value { FromSource (inputting frame.old.place i) intake.old.taken intake.old.stream frame.old.slips.now (held frame.old.tables) (S.waiting source.old) result intake.new.taken intake.new.stream (held frame.new.tables) (S.waiting source.new) }
     ensures stays { Stays frame.old frame.new }
 {

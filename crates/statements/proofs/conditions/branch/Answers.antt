@@ -14,7 +14,7 @@ returns-then-not-is_alone c s =
 pub bounds-frame-start_of : goal.bounds-frame-start_of
 bounds-frame-start_of c =
     let lone = c.if-not-is_alone.ensures ∙ ap (alone Boolean) c.typing.ensures in
-    let there = cell_there c.args.frame.now.place.width c.in_ok-x.x c.in_ok-x.ensures.lawful (sym lone) c.args.a c.args.frame.now.place.row (length c.args.frame.now.tables.booleans.now) c.requires.before (omega (arith, c.args.frame.now.ample.booleans)) in
+    let there = cell_there c.args.frame.now.place.width c.in_ok-x.x c.in_ok-x.ensures.lawful (sym lone) c.args.a c.args.frame.now.place.row (length c.args.frame.now.tables.booleans.now) c.requires.before c.requires.ample in
     omega (arith, there, c.start_of.ensures)
 
 pub returns-then-holds : goal.returns-then-holds

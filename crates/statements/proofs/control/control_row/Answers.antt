@@ -12,6 +12,7 @@ reopen-requires c =
       earlier = (reopens g.lines.now g.target g.control c.in-Continue.is g.frame.now.place.row c.requires.ready).earlier;
       domain = domain_read g.lines.now g.target g.control c.in-Continue.is g.frame.now.place.row _ c.requires.ready;
       slip = c.requires.slip;
+      ample = c.requires.ample;
     }
 
 pub returns-in-Continue-clause-value : goal.returns-in-Continue-clause-value

@@ -30,7 +30,7 @@ list_at-list-requires c =
     let W = c.args.frame.now.place.width in
     let wide = ranged_wide W c.in_ok-x.x c.in_ok-x.ensures.lawful (sym c.if-not-is_ranged.ensures) in
     let u = under_all W c.args.a c.args.frame.now.place.row (omega arith) in
-    omega (arith, wide, u, c.args.frame.now.ample.integers)
+    omega (arith, wide, u, c.requires.ample.integers)
 
 pub returns-then-not-is_orderly-clause-value : goal.returns-then-not-is_orderly-clause-value
 returns-then-not-is_orderly-clause-value c s =
@@ -56,7 +56,7 @@ put_element-requires c =
     let last = room_at W g.i g.frame.now.place.row c.requires.upto in
     record {
       below = element_below W g.frame.now.tables.integers.now g.a g.n c.in_ok-x.x c.in_ok-x.ensures.lawful c.list_at-list.result c.list_at-list.ensures c.start_of-to.result lt (omega (arith, u, start));
-      within = reach c.args.frame.now.tables c.args.frame.now.ample (omega (arith, wide, last, start));
+      within = reach c.args.frame.now.tables c.requires.ample (omega (arith, wide, last, start));
     }
 
 pub returns-clause-value : goal.returns-clause-value
@@ -68,4 +68,4 @@ returns-clause-value c s =
     let t = held g.frame.now.tables in
     each_takes g.frame.now.place s g.frame.now.slips.now t g.i g.a g.end g.n c.in_ok-x.x c.in_ok-x.ensures.is
     c.in_ok-x.ensures.lawful c.if-not-is_ranged.ensures c.list_at-list.result c.list_at-list.ensures c.if-not-is_orderly.ensures
-    lt (long_enough g.frame.now.place g.a t c.args.frame.now.ample u) c.start_of-to.result c.start_of-to.ensures _ (ap (set g.frame.now.slips.now g.i) (c.new.ensures ∙ ap (λ (f : Layout). slip_of f g.n) c.scalar.ensures)) _ c.put_element.ensures.value
+    lt (long_enough g.frame.now.place g.a t c.requires.ample u) c.start_of-to.result c.start_of-to.ensures _ (ap (set g.frame.now.slips.now g.i) (c.new.ensures ∙ ap (λ (f : Layout). slip_of f g.n) c.scalar.ensures)) _ c.put_element.ensures.value

@@ -23,5 +23,5 @@ print-requires c =
       fixed = lawful_fixed W x law;
       rows = omega (arith, small.rows, c.requires.width);
       columns = omega (arith, small.columns, c.requires.width);
-      within = reach c.args.frame.now.tables c.args.frame.now.ample (omega (arith, small.elements, u, start));
+      within = reach c.args.frame.now.tables c.requires.ample (omega (arith, small.elements, u, start));
     }

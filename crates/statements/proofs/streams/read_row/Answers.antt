@@ -19,7 +19,7 @@ read-requires g c =
     let u = under_all W c.args.i c.args.frame.now.place.row c.requires.before in
     let start = c.start_of-to.ensures in
     record {
-      within = reach c.args.frame.now.tables c.args.frame.now.ample (omega (arith, wide, u, start));
+      within = reach c.args.frame.now.tables c.requires.ample (omega (arith, wide, u, start));
     }
 
 pub returns-clause-value : goal.returns-clause-value
