@@ -1,5 +1,5 @@
 //! Rows that assign: a variable takes a value of its own sizes.
-ghost use Rattle.std.specs.Prelude.{◌≡◌, ◌*◌, ◌<◌, true, IfOk, ◌≤◌, ◌+◌, length};
+ghost use Rattle.std.specs.Prelude.{◌≡◌, ◌*◌, ◌<◌, true, IfOk};
 ghost use Rattle.meaning.specs.Changes.{assigned};
 ghost use Rattle.meaning.specs.Expressions.{by2};
 ghost use Rattle.meaning.specs.States.{value_from};

@@ -1,5 +1,5 @@
 //! Rows that declare a variable: nulls, or a value that fits its written type.
-ghost use Rattle.std.specs.Prelude.{◌≡◌, ◌*◌, ◌<◌, true, IfOk, Some, ◌≤◌, ◌+◌, length};
+ghost use Rattle.std.specs.Prelude.{◌≡◌, ◌*◌, ◌<◌, true, IfOk, Some};
 ghost use Rattle.types.specs.Types.{fits_in};
 ghost use Rattle.meaning.specs.Changes.{nulls, declared};
 ghost use Rattle.meaning.specs.Expressions.{by1, size_or};

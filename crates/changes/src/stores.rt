@@ -1,5 +1,5 @@
 //! Rows that store elements into a variable, at indices that count from 1.
-ghost use Rattle.std.specs.Prelude.{◌≡◌, ◌+◌, ◌*◌, ◌<◌, true, [], ◌∷◌, length, pos, IfOk, None, slice_index_or, slice_set, ◌≤◌};
+ghost use Rattle.std.specs.Prelude.{◌≡◌, ◌+◌, ◌*◌, ◌<◌, true, [], ◌∷◌, length, pos, IfOk, None, slice_index_or, slice_set};
 ghost use Rattle.element.specs.Cells.{cells};
 ghost use Rattle.picks.specs.Indices.{first_outside2, place_of};
 ghost use Rattle.meaning.specs.Changes.{stored_at, stored_at_two};

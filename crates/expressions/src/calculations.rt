@@ -1,5 +1,5 @@
 //! Rows of arithmetic, orders and logic, element by element.
-ghost use Rattle.std.specs.Prelude.{◌<◌, ◌≤◌, ◌+◌, ◌*◌, length};
+ghost use Rattle.std.specs.Prelude.{◌<◌, ◌≤◌, ◌*◌, length};
 ghost use Rattle.meaning.specs.Expressions.{by2, calculated, compared, decided_by};
 ghost use Rattle.tables.specs.Frames.{Covers, values, Makes, Stays};
 

@@ -1,5 +1,5 @@
 //! Rows that make integers of what slips and single cells tell: intervals, sizes, the state of the stream.
-ghost use Rattle.std.specs.Prelude.{◌≡◌, ◌<◌, true, ◌&&◌, [], ◌∷◌, length, pos, IfOk, None, int_le, slice_index_or, ◌≤◌, ◌+◌, ◌*◌};
+ghost use Rattle.std.specs.Prelude.{◌≡◌, ◌<◌, true, ◌&&◌, [], ◌∷◌, length, pos, IfOk, None, int_le, slice_index_or};
 ghost use Rattle.types.specs.declared.kinds.Kind.TheVariants.{Integer};
 ghost use Rattle.types.specs.Typings.{alone, is};
 ghost use Rattle.instruction.specs.declared.instructions.Measure.TheVariants.{Length, Rows, Columns};

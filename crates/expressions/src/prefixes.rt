@@ -1,5 +1,5 @@
 //! Rows with an operator before one value, element by element.
-ghost use Rattle.std.specs.Prelude.{◌≡◌, ◌<◌, true, ◌&&◌, IfOk, None, ◌≤◌, ◌+◌, ◌*◌, length};
+ghost use Rattle.std.specs.Prelude.{◌≡◌, ◌<◌, true, ◌&&◌, IfOk, None};
 ghost use Rattle.types.specs.Typings.{of, flat};
 ghost use Rattle.instruction.specs.declared.instructions.Prefix.TheVariants.{Minus, Not};
 ghost use Rattle.meaning.specs.Expressions.{by1, prefixed};

@@ -1,10 +1,10 @@
 //! Rows that change a variable, print, read or return.
 ghost use Rattle.std.specs.Prelude.{◌≡◌, ◌<◌, ◌≤◌, length};
 ghost use Rattle.meaning.specs.Acts.{step};
-ghost use Rattle.statements.specs.Frames.{state_of};
 ghost use Rattle.rows.specs.Changing.{Reaches, changing};
+ghost use Rattle.rows.specs.States.{state_at};
 ghost use Rattle.tables.specs.Frames.{Lasts};
-ghost use Rattle.tables.specs.Lent.{held, Holds};
+ghost use Rattle.tables.specs.Lent.{Holds};
 ghost use Rattle.tables.specs.Outputs.{Goes};
 
 use crate::variables::{assign, declare, store, store_two};
@@ -30,7 +30,7 @@ pub fn change_row<S: Source>(
     requires width { frame.old.place.width ≤ 1024 }
     requires row { frame.old.place.row < length frame.old.slips.now }
     requires ample { Holds frame.old.place frame.old.tables }
-    ensures does { step result (state_of intake.new.taken intake.new.stream frame.new.slips.now (held frame.new.tables) (S.waiting source.new) output.new.bytes.now output.new.printed) ≡ changing frame.old.place head change (state_of intake.old.taken intake.old.stream frame.old.slips.now (held frame.old.tables) (S.waiting source.old) output.old.bytes.now output.old.printed) }
+    ensures does { step result (state_at frame.new intake.new (S.waiting source.new) output.new) ≡ changing frame.old.place head change (state_at frame.old intake.old (S.waiting source.old) output.old) }
     ensures goes { Goes output.old output.new }
     ensures lasts { Lasts frame.old frame.new }
 {

@@ -4,7 +4,7 @@ ghost use Rattle.checker.specs.Blocks.{at};
 ghost use Rattle.checker.specs.Structure.{Structured};
 ghost use Rattle.meaning.specs.Acts.{Acts};
 ghost use Rattle.laws.specs.Reads.{make_reads, AllUnder};
-ghost use Rattle.statements.specs.Frames.{state_of};
+ghost use Rattle.rows.specs.States.{state_at};
 ghost use Rattle.rows.specs.Working.{Expresses};
 ghost use Rattle.tables.specs.Frames.{Lasts};
 ghost use Rattle.tables.specs.Lent.{held, Holds};
@@ -59,7 +59,7 @@ pub fn work<S: Source>(
     requires width { frame.old.place.width ≤ 1024 }
     requires row { frame.old.place.row < length frame.old.slips.now }
     requires ample { Holds frame.old.place frame.old.tables }
-    ensures acts { Acts frame.old.place.width frame.old.place.row frame.old.place.line (state_of intake.old.taken intake.old.stream frame.old.slips.now (held frame.old.tables) (S.waiting source.old) output.old.bytes.now output.old.printed) head lines.now (at lines.now frame.old.place.row).target (at lines.now frame.old.place.row).instruction result (state_of intake.new.taken intake.new.stream frame.new.slips.now (held frame.new.tables) (S.waiting source.new) output.new.bytes.now output.new.printed) }
+    ensures acts { Acts frame.old.place.width frame.old.place.row frame.old.place.line (state_at frame.old intake.old (S.waiting source.old) output.old) head lines.now (at lines.now frame.old.place.row).target (at lines.now frame.old.place.row).instruction result (state_at frame.new intake.new (S.waiting source.new) output.new) }
     ensures goes { Goes output.old output.new }
     ensures lasts { Lasts frame.old frame.new }
 {

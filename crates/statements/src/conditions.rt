@@ -1,5 +1,5 @@
 //! Rows that go one way or another by a condition.
-ghost use Rattle.std.specs.Prelude.{◌<◌, ◌≤◌, ◌+◌, ◌*◌, length};
+ghost use Rattle.std.specs.Prelude.{◌<◌, ◌≤◌, ◌*◌, length};
 ghost use Rattle.statements.specs.Frames.{InTables, branching};
 ghost use Rattle.tables.specs.Lent.{held};
 

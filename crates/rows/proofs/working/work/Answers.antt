@@ -2,12 +2,11 @@
 use Rattle.std.proofs.Common.{sym, subst}
 use Rattle.checker.specs.declared.line.Line.{Line}
 use Rattle.instruction.specs.declared.instructions.Instruction.TheVariants.{Expression, Change, Control}
-use Rattle.statements.specs.Frames.{state_of}
 use Rattle.statements.specs.Ready.{Ready}
 use Rattle.statements.proofs.Checked.{ready}
+use Rattle.rows.specs.States.{state_at}
 use Rattle.rows.proofs.Expressing.{acts_by, says_so}
 use Rattle.rows.proofs.Sheets.{reads_under, reaches}
-use Rattle.tables.specs.Lent.{held}
 use Rattle.rows.proofs.working.work.Goals as goal
 
 pub express-requires-clause-reads : goal.express-requires-clause-reads
@@ -33,11 +32,11 @@ control_row-requires-clause-ready g c =
 pub returns-in-Expression-clause-acts : goal.returns-in-Expression-clause-acts
 returns-in-Expression-clause-acts g c =
     let a = c.args in
-    let here = state_of a.intake.now.taken a.intake.now.stream a.frame.now.slips.now (held a.frame.now.tables) (g.S.Source.waiting a.source.now) a.output.now.bytes.now a.output.now.printed in
+    let here = state_at a.frame.now a.intake.now (g.S.Source.waiting a.source.now) a.output.now in
     acts_by a.frame.now.place a.head a.lines.now c.line_of-line.result (Expression c.in-Expression.expression) here c.express.result _ c.line_of-line.ensures c.in-Expression.is (c.express.ensures.value here)
 
 pub returns-in-Control-clause-acts : goal.returns-in-Control-clause-acts
 returns-in-Control-clause-acts g c =
     let a = c.args in
-    let here = state_of a.intake.now.taken a.intake.now.stream a.frame.now.slips.now (held a.frame.now.tables) (g.S.Source.waiting a.source.now) a.output.now.bytes.now a.output.now.printed in
+    let here = state_at a.frame.now a.intake.now (g.S.Source.waiting a.source.now) a.output.now in
     acts_by a.frame.now.place a.head a.lines.now c.line_of-line.result (Control c.in-Control.control) here c.control_row.result _ c.line_of-line.ensures c.in-Control.is (c.control_row.ensures.value here)
