@@ -12,7 +12,7 @@ use std::io;
 /// Prints a name and the fault that an element met.
 fn faulted(rt: &HostRuntime, name: &str, met: ElementFault) -> io::Result<()> {
     let ElementFault { element, fault } = met;
-    let number = fault.number();
+    let number = u8::from(fault);
     println!(rt; "{name}: fault {number} at element {element}, {fault}")
 }
 

@@ -37,7 +37,7 @@ pub(crate) fn result(rt: &HostRuntime, r: Result<i32, ArithmeticFault>) -> io::R
     match r {
         Ok(z) => println!(rt; "{z}"),
         Err(fault) => {
-            let number = fault.number();
+            let number = u8::from(fault);
             println!(rt; "fault {number}, {fault}")
         }
     }

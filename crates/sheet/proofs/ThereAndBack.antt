@@ -11,7 +11,6 @@ use Rattle.sheet.specs.declared.refusal.Returned.{Returned}
 use Rattle.sheet.specs.declared.room.Room.{Room}
 
 module _ (f next rest : List ℕ) (n : ℕ) (e : next ≡ f ++ rest) (l : n ≡ length f) where
-
   pub front : take (n - 0) next ≡ f
   front = ap (take (n - 0)) e ∙ take_at f rest (n - 0) (omega arith)
 
