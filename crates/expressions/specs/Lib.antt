@@ -2,3 +2,4 @@ pub mod Answers
 pub mod Pairs
 pub mod Lists
 pub mod Products
+pub mod Written

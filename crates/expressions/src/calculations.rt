@@ -1,6 +1,7 @@
 //! Rows of arithmetic, orders and logic, element by element.
 ghost use Rattle.std.specs.Prelude.{◌<◌, ◌≤◌, ◌*◌, length};
 ghost use Rattle.meaning.specs.Expressions.{by2, calculated, compared, decided_by};
+ghost use Rattle.expressions.specs.Written.{OnlyIntegers, OnlyBooleans};
 ghost use Rattle.tables.specs.Frames.{Covers, values, Makes, Stays};
 
 use crate::operands::{cells_of, guard_pair};
@@ -20,6 +21,7 @@ pub fn calculate_row(frame: &mut Frame, op: Arithmetic, a: u16, b: u16) -> Resul
     requires ample { Covers frame.old.place frame.old.tables.integers.now }
     ensures made { Makes frame.old (by2 frame.old.place.width (values frame.old) a b (calculated op)) result frame.new }
     ensures stays { Stays frame.old frame.new }
+    ensures only { OnlyIntegers frame.old frame.new }
 {
     let place = frame.place;
     let x = frame.operand(a)?;
@@ -42,6 +44,7 @@ pub fn compare_row(frame: &mut Frame, op: Order, a: u16, b: u16) -> Result<Layou
     requires ample { Covers frame.old.place frame.old.tables.booleans.now }
     ensures made { Makes frame.old (by2 frame.old.place.width (values frame.old) a b (compared op)) result frame.new }
     ensures stays { Stays frame.old frame.new }
+    ensures only { OnlyBooleans frame.old frame.new }
 {
     let place = frame.place;
     let x = frame.operand(a)?;
@@ -64,6 +67,7 @@ pub fn decide_row(frame: &mut Frame, op: Logic, a: u16, b: u16) -> Result<Layout
     requires ample { Covers frame.old.place frame.old.tables.booleans.now }
     ensures made { Makes frame.old (by2 frame.old.place.width (values frame.old) a b (decided_by op)) result frame.new }
     ensures stays { Stays frame.old frame.new }
+    ensures only { OnlyBooleans frame.old frame.new }
 {
     let place = frame.place;
     let x = frame.operand(a)?;

@@ -8,6 +8,7 @@ ghost use Rattle.meaning.specs.Expressions.{by1, by2, interval, measured, stream
 ghost use Rattle.meaning.specs.Plans.{outcome};
 ghost use Rattle.meaning.specs.Values.{known, scalar_of, within};
 ghost use Rattle.meaning.specs.Works.{guards};
+ghost use Rattle.expressions.specs.Written.{OnlyIntegers};
 ghost use Rattle.tables.specs.Frames.{Covers, values, Makes, Stays};
 
 use element::cells::join;
@@ -49,6 +50,7 @@ pub fn interval_row(frame: &mut Frame, a: u16, b: u16) -> Result<Layout, Fault>
     requires ample { Covers frame.old.place frame.old.tables.integers.now }
     ensures made { Makes frame.old (by2 frame.old.place.width (values frame.old) a b interval) result frame.new }
     ensures stays { Stays frame.old frame.new }
+    ensures only { OnlyIntegers frame.old frame.new }
 {
     let place = frame.place;
     let x = frame.operand(a)?;
@@ -93,6 +95,7 @@ pub fn length_row(frame: &mut Frame, a: u16) -> Result<Layout, Fault>
     requires ample { Covers frame.old.place frame.old.tables.integers.now }
     ensures made { Makes frame.old (by1 frame.old.place.width (values frame.old) a (measured Length)) result frame.new }
     ensures stays { Stays frame.old frame.new }
+    ensures only { OnlyIntegers frame.old frame.new }
 {
     let place = frame.place;
     let x = frame.operand(a)?;
@@ -107,6 +110,7 @@ pub fn rows_row(frame: &mut Frame, a: u16) -> Result<Layout, Fault>
     requires ample { Covers frame.old.place frame.old.tables.integers.now }
     ensures made { Makes frame.old (by1 frame.old.place.width (values frame.old) a (measured Rows)) result frame.new }
     ensures stays { Stays frame.old frame.new }
+    ensures only { OnlyIntegers frame.old frame.new }
 {
     let place = frame.place;
     let x = frame.operand(a)?;
@@ -121,6 +125,7 @@ pub fn columns_row(frame: &mut Frame, a: u16) -> Result<Layout, Fault>
     requires ample { Covers frame.old.place frame.old.tables.integers.now }
     ensures made { Makes frame.old (by1 frame.old.place.width (values frame.old) a (measured Columns)) result frame.new }
     ensures stays { Stays frame.old frame.new }
+    ensures only { OnlyIntegers frame.old frame.new }
 {
     let place = frame.place;
     let x = frame.operand(a)?;
@@ -135,6 +140,7 @@ pub fn state_row(frame: &mut Frame, state: StreamState) -> Result<Layout, Fault>
     requires ample { Covers frame.old.place frame.old.tables.integers.now }
     ensures made { Makes frame.old (outcome frame.old.place.width (streamed state)) result frame.new }
     ensures stays { Stays frame.old frame.new }
+    ensures only { OnlyIntegers frame.old frame.new }
 {
     let place = frame.place;
     let form = place.guard(true, true, None, Layout::scalar(Kind::Integer), true)?;

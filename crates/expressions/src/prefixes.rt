@@ -5,6 +5,7 @@ ghost use Rattle.instruction.specs.declared.instructions.Prefix.TheVariants.{Min
 ghost use Rattle.meaning.specs.Expressions.{by1, prefixed};
 ghost use Rattle.meaning.specs.Values.{layout_of, known, within};
 ghost use Rattle.meaning.specs.Works.{guards};
+ghost use Rattle.expressions.specs.Written.{OnlyIntegers, OnlyBooleans};
 ghost use Rattle.tables.specs.Frames.{Covers, values, Makes, Stays};
 
 use arithmetic::faults::at_row;
@@ -30,6 +31,7 @@ pub fn negate_row(frame: &mut Frame, a: u16) -> Result<Layout, Fault>
     requires ample { Covers frame.old.place frame.old.tables.integers.now }
     ensures made { Makes frame.old (by1 frame.old.place.width (values frame.old) a (prefixed Minus)) result frame.new }
     ensures stays { Stays frame.old frame.new }
+    ensures only { OnlyIntegers frame.old frame.new }
 {
     let place = frame.place;
     let x = frame.operand(a)?;
@@ -48,6 +50,7 @@ pub fn not_row(frame: &mut Frame, a: u16) -> Result<Layout, Fault>
     requires ample { Covers frame.old.place frame.old.tables.booleans.now }
     ensures made { Makes frame.old (by1 frame.old.place.width (values frame.old) a (prefixed Not)) result frame.new }
     ensures stays { Stays frame.old frame.new }
+    ensures only { OnlyBooleans frame.old frame.new }
 {
     let place = frame.place;
     let x = frame.operand(a)?;

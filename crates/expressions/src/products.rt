@@ -8,6 +8,7 @@ ghost use Rattle.elementwise.specs.Results.{collected, Wrote};
 ghost use Rattle.meaning.specs.Expressions.{by2, multiplied};
 ghost use Rattle.meaning.specs.Values.{area, known, within};
 ghost use Rattle.expressions.specs.Products.{product_layout, multiplies, product_guard, product_cells};
+ghost use Rattle.expressions.specs.Written.{OnlyIntegers};
 ghost use Rattle.tables.specs.Frames.{Covers, values, Makes, Stays};
 
 use arithmetic::faults::{ElementFault, at_row};
@@ -108,6 +109,7 @@ pub fn multiply_row(frame: &mut Frame, a: u16, b: u16) -> Result<Layout, Fault>
     requires ample { Covers frame.old.place frame.old.tables.integers.now }
     ensures made { Makes frame.old (by2 frame.old.place.width (values frame.old) a b multiplied) result frame.new }
     ensures stays { Stays frame.old frame.new }
+    ensures only { OnlyIntegers frame.old frame.new }
 {
     let place = frame.place;
     let x = frame.operand(a)?;

@@ -12,8 +12,8 @@ fn is_literal(kind: Kind, n: i32) -> bool
     ensures { result ≡ literal_fits kind n }
 {
     match kind {
-        Kind::Boolean => 0 <= n && n <= 1,
-        Kind::Character => -128 <= n && n <= 127,
+        Kind::Boolean => (0..=1).contains(&n),
+        Kind::Character => i8::try_from(n).is_ok(),
         Kind::Integer => true,
     }
 }

@@ -38,7 +38,7 @@ pub fn fields_of(code: u16) -> Fields
 }
 
 /// Whether each other field of the row is 0.
-// No plainer: to compare with the row whose other fields are 0, each arm writes all nine, since a row with ghost fields takes no `..`.
+// No plainer: as a pattern of the row each arm is laid out with a field a line.
 pub fn is_plain(fields: Fields, x: Row) -> bool
     ensures { result ≡ plain fields x }
 {

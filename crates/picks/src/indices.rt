@@ -46,11 +46,8 @@ pub fn nth_between(low: i32, high: i32, k: usize) -> i32
 pub fn place_among(index: i32, n: usize) -> Option<usize>
     ensures { result ≡ place_among n index }
 {
-    if 0 < index && index as usize <= n {
-        Some(index as usize - 1)
-    } else {
-        None
-    }
+    let place = usize::try_from(index).ok()?.checked_sub(1)?;
+    (place < n).then_some(place)
 }
 
 /// An index that names no element of a value: its place among the indices, from 1.

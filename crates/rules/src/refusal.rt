@@ -9,19 +9,19 @@ use std::fmt;
 #[derive(Clone, Copy, Debug, PartialEq, Eq)]
 pub enum Refusal {
     /// The room is too short; this is of no row.
-    NoRoom,
+    NoRoom = 4,
     /// An unknown code, a number that names nothing, a literal outside its kind, a wrong fixed size or a stray field.
-    Form,
+    Form = 5,
     /// An operand is no expression row directly before.
-    Operand,
+    Operand = 6,
     /// Blocks do not match, nest too deep, or the last row is no return outside all blocks.
-    Block,
+    Block = 7,
     /// A variable is not in scope, or is none that can be written.
-    Scope,
+    Scope = 8,
     /// A kind or a shape does not fit.
-    Unfit,
+    Unfit = 9,
     /// Known sizes do not fit, go beyond the width, or a size is open that must not be.
-    Sizes,
+    Sizes = 10,
 }
 
 /// The number of a refusal, as hosts are told it.
@@ -29,15 +29,7 @@ impl From<Refusal> for u16 {
     ghost from_gives = { λ e n. n ≡ refusal_number e };
 
     fn from(value: Refusal) -> u16 {
-        match value {
-            Refusal::NoRoom => 4,
-            Refusal::Form => 5,
-            Refusal::Operand => 6,
-            Refusal::Block => 7,
-            Refusal::Scope => 8,
-            Refusal::Unfit => 9,
-            Refusal::Sizes => 10,
-        }
+        value as u16
     }
 }
 

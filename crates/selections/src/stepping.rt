@@ -24,8 +24,7 @@ fn step_at(tables: &Tables, at: usize) -> usize
     ensures is { result ≡ amount (slice_index_or tables.now.integers.now at (pos 0)) }
     ensures small { result < 2 ^ 32 }
 {
-    let step = tables.integers[at];
-    if step < 0 { 0 } else { step as usize }
+    usize::try_from(tables.integers[at]).unwrap_or(0)
 }
 
 /// How many elements a list has: at most 2^32, where its cells are among the first so many.
@@ -35,10 +34,7 @@ fn count_of(list: Index) -> usize
     ensures is { result ≡ index_count list }
     ensures few { result ≤ 2 ^ 32 }
 {
-    match list {
-        Index::Cells { count, .. } => count,
-        Index::Interval { low, high } => span(low, high),
-    }
+    list.count()
 }
 
 /// How many of n elements a step meets; none where it is under 1.

@@ -44,7 +44,7 @@ impl TryFrom<HeadNumbers> for Head {
             r: size_from(value.r),
             s: size_from(value.s),
         };
-        if width < MIN_WIDTH || width > MAX_WIDTH || !result.is_lawful(width) {
+        if !(MIN_WIDTH..=MAX_WIDTH).contains(&width) || !result.is_lawful(width) {
             return Err(UnlawfulHead);
         }
         Ok(Head {

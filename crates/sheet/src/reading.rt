@@ -37,7 +37,7 @@ fn is_laid(len: usize, t: &Trailer) -> bool
 {
     let offset = t.offset as usize;
     let count = t.count as usize;
-    offset <= MAX_NOTE && count >= 1 && count <= MAX_ROWS && offset + ROW * count + TRAILER == len
+    offset <= MAX_NOTE && (1..=MAX_ROWS).contains(&count) && offset + ROW * count + TRAILER == len
 }
 
 /// The trailer and the head of a file that is lawful.

@@ -26,10 +26,7 @@ pub fn size_from(number: u16) -> Size
 pub fn agree(x: Size, y: Size) -> bool
     ensures { result ≡ agree x y }
 {
-    match (x, y) {
-        (Some(m), Some(n)) => m == n,
-        _ => true,
-    }
+    x.zip(y).is_none_or(|(m, n)| m == n)
 }
 
 /// Whether the first may be at most the second, as far as they are known.
@@ -56,10 +53,7 @@ pub fn plus(x: Size, y: Size) -> Option<Size>
 pub fn larger(x: Size, y: Size) -> Size
     ensures { result ≡ larger x y }
 {
-    match (x, y) {
-        (Some(m), Some(n)) => Some(m.max(n)),
-        _ => None,
-    }
+    x.zip(y).map(|(m, n)| m.max(n))
 }
 
 /// Whether it is not known to be beyond the width.

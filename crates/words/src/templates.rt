@@ -3,67 +3,57 @@
 //! In a template `%a`, `%b`, `%c`, `%d`, `%r`, `%s` and `%n` stand for the row's field of that name, `%k`
 //! for the kind whose number is in a, `%K` for that in c, and `%t` for the type that c, b, r and s write.
 use crate::row::declared;
+use arithmetic::integers::Arithmetic;
+use arithmetic::truths::{Logic, Order};
+use instruction::{Equality, Infix, Measure, Prefix};
 use sheet::{Kind, Row};
 
 /// In field a of a declaration: it has no value, and its elements are nulls.
 const NO_VALUE: u16 = 65535;
 
-fn prefix(c: u16) -> Option<&'static str> {
-    match c {
-        1 => Some("minus row %a"),
-        2 => Some("not row %a"),
-        _ => None,
+fn prefix(operation: Prefix) -> &'static str {
+    match operation {
+        Prefix::Minus => "minus row %a",
+        Prefix::Not => "not row %a",
     }
 }
 
-fn arithmetic(c: u16) -> Option<&'static str> {
-    match c {
-        1 => Some("add rows %a and %b"),
-        2 => Some("from row %a subtract row %b"),
-        3 => Some("multiply rows %a and %b"),
-        4 => Some("divide row %a by row %b"),
-        5 => Some("remainder of row %a by row %b"),
-        6 => Some("row %a to the power of row %b"),
-        _ => None,
+fn arithmetic(operation: Arithmetic) -> &'static str {
+    match operation {
+        Arithmetic::Add => "add rows %a and %b",
+        Arithmetic::Subtract => "from row %a subtract row %b",
+        Arithmetic::Multiply => "multiply rows %a and %b",
+        Arithmetic::Divide => "divide row %a by row %b",
+        Arithmetic::Remainder => "remainder of row %a by row %b",
+        Arithmetic::Power => "row %a to the power of row %b",
     }
 }
 
-fn comparison(c: u16) -> Option<&'static str> {
-    match c {
-        7 => Some("whether row %a is less than row %b"),
-        8 => Some("whether row %a is greater than row %b"),
-        9 => Some("whether row %a is at most row %b"),
-        10 => Some("whether row %a is at least row %b"),
-        14 => Some("whether rows %a and %b are equal"),
-        15 => Some("whether rows %a and %b differ"),
-        _ => None,
+fn infix(operation: Infix) -> &'static str {
+    match operation {
+        Infix::Arithmetic(op) => arithmetic(op),
+        Infix::Order(Order::Less) => "whether row %a is less than row %b",
+        Infix::Order(Order::Greater) => "whether row %a is greater than row %b",
+        Infix::Order(Order::AtMost) => "whether row %a is at most row %b",
+        Infix::Order(Order::AtLeast) => "whether row %a is at least row %b",
+        Infix::Equality(Equality::Equal) => "whether rows %a and %b are equal",
+        Infix::Equality(Equality::Unequal) => "whether rows %a and %b differ",
+        Infix::Logic(Logic::And) => "both of rows %a and %b",
+        Infix::Logic(Logic::Or) => "either of rows %a and %b",
+        Infix::Logic(Logic::Xor) => "only one of rows %a and %b",
+        Infix::Join => "join rows %a and %b",
+        Infix::Product => "product of rows %a and %b",
+        Infix::By => "elements of row %a in steps of row %b",
     }
 }
 
-fn combination(c: u16) -> Option<&'static str> {
-    match c {
-        11 => Some("both of rows %a and %b"),
-        12 => Some("either of rows %a and %b"),
-        13 => Some("only one of rows %a and %b"),
-        16 => Some("join rows %a and %b"),
-        17 => Some("product of rows %a and %b"),
-        18 => Some("elements of row %a in steps of row %b"),
-        _ => None,
-    }
-}
-
-fn infix(c: u16) -> Option<&'static str> {
-    arithmetic(c).or(comparison(c)).or(combination(c))
-}
-
-fn measure(c: u16) -> Option<&'static str> {
-    match c {
-        1 => Some("length of row %a"),
-        2 => Some("number of rows of row %a"),
-        3 => Some("number of columns of row %a"),
-        4 => Some("reverse row %a"),
-        5 => Some("vector of row %a alone"),
-        _ => None,
+fn measure(asked: Measure) -> &'static str {
+    match asked {
+        Measure::Length => "length of row %a",
+        Measure::Rows => "number of rows of row %a",
+        Measure::Columns => "number of columns of row %a",
+        Measure::Reverse => "reverse row %a",
+        Measure::Single => "vector of row %a alone",
     }
 }
 
@@ -86,13 +76,13 @@ fn expression(row: &Row) -> Option<&'static str> {
         1 => with_kind(row.a, "literal %k %n"),
         2 => with_kind(row.a, "empty vector of %k"),
         3 => Some("value of variable %a"),
-        4 => prefix(row.c),
-        5 => infix(row.c),
+        4 => Some(prefix(Prefix::try_from(row.c).ok()?)),
+        5 => Some(infix(Infix::try_from(row.c).ok()?)),
         6 => Some("interval from row %a to row %b"),
         7 => Some("stack row %b under row %a"),
         8 => Some("elements of row %a at row %b"),
         9 => Some("elements of row %a at rows %b and %c"),
-        10 => measure(row.c),
+        10 => Some(measure(Measure::try_from(row.c).ok()?)),
         11 => with_kind(row.c, "cast row %a to %K"),
         12 => Some("resize row %a to %r by %s"),
         13 => Some("stream state"),
