@@ -1,8 +1,8 @@
 """Prints the lists at the end of docs/DESIGN-PASS.md: what went and what is worded otherwise, old beside new.
 
-    python3 tools/signatures.py THEN NOW
+    python3 tools/signatures.py CONTRACTS THEN NOW
 
-THEN and NOW are two trees of this repository. The kit's port/contracts.py finds what differs; this script says, for
+THEN and NOW are two trees of this repository. CONTRACTS is the kit's port/contracts.py, which finds what differs; this script says, for
 what is gone, where its promise stands now, and lays everything out as tables.
 """
 import collections
@@ -12,8 +12,6 @@ import pathlib
 import re
 import subprocess
 import sys
-
-CONTRACTS = '/opt/rattle/port/contracts.py'
 
 # Functions that went, by crate, file and name, and what states their promise now.
 SUCCESSORS = [
@@ -167,9 +165,9 @@ def contract(function, name):
     return code(' '.join((name + function['sign'], *clauses)))
 
 
-def moved(then, now, gone):
+def moved(script, then, now, gone):
     """Rows of functions that have another place or name, with their whole contracts."""
-    spec = importlib.util.spec_from_file_location('contracts', CONTRACTS)
+    spec = importlib.util.spec_from_file_location('contracts', script)
     contracts = importlib.util.module_from_spec(spec)
     spec.loader.exec_module(contracts)
     old, new = contracts.read(then)[1], contracts.read(now)[1]
@@ -241,13 +239,13 @@ def worded(entries):
         yield code(' '.join(name).replace('> Rule', 'Rule')), code('; '.join(old)), code('; '.join(new))
 
 
-def main(then, now):
-    run = subprocess.run(['python3', CONTRACTS, then, now, '--json'], capture_output=True, text=True, check=True)
+def main(script, then, now):
+    run = subprocess.run(['python3', script, then, now, '--json'], capture_output=True, text=True, check=True)
     found = json.loads(run.stdout)
     table('Functions that went, and where their promise stands now', ('function', 'states its promise now'),
           gone_functions(found['functions not found again']))
     table('Contracts of functions that have another place or name', ('where', 'old', 'new'),
-          moved(then, now, found['functions not found again']),
+          moved(script, then, now, found['functions not found again']),
           'Functions of the list above whose contract stands under a name now, each with its whole contract.')
     table('Definitions that went', ('definition', 'says the same now'), DEFINITIONS)
     table('Lemmas of proofs/ that went', ('crate', 'lemmas'), gone_lemmas(then, now),
@@ -269,4 +267,4 @@ def main(then, now):
 
 
 if __name__ == '__main__':
-    main(*sys.argv[1:3])
+    main(*sys.argv[1:4])

@@ -15,6 +15,8 @@ pub enum Arithmetic {
     Power,
 }
 
+// Each operator is a type of its own, and so are the orders: a loop over cells then has no choice inside.
+
 /// `x + y`.
 #[derive(Clone, Copy)]
 pub struct Sum;

@@ -67,6 +67,7 @@ impl Operator<i32, bool> for Order {
     ghost gives = { ordered };
 
     fn apply(&self, x: i32, y: i32) -> bool {
+        // a closed list that rows name by number: the match gives each name its order
         match self {
             Order::Less => Under.apply(x, y),
             Order::Greater => Above.apply(x, y),

@@ -13,6 +13,7 @@ use rules::{Judged, Refusal, expressions, need, operators, statements};
 use sheet::Row;
 use types::{Kind, Shape, Typing};
 
+// Each match goes over a closed list of rows: it is what a row says.
 impl Position<'_> {
     fn judge_expression(&self, e: Expression) -> Judged
         ensures { result ≡ make_rule self.now.head.width self.now.head.result (typing_at self.now.lines.now) e }

@@ -4,6 +4,8 @@ ghost use Rattle.element.specs.Cells.{put, cells, padded};
 
 use crate::elements::Element;
 
+// `from`, `n` and `to` stay apart here and in matrices: each call has them at hand; a struct would be built there only to be taken apart here.
+
 /// Writes the n cells from `from` on as they are. The two ranges may overlap.
 pub fn copy<E: Element>(table: &mut [E], from: usize, n: usize, to: usize)
     requires source { from + n ≤ length table.old }

@@ -56,6 +56,7 @@ pub fn compare(
     ensures { booleans.new ≡ put booleans.old to (map2 (ordered order) (along (pos 0) integers.now a n) (along (pos 0) integers.now b n)) }
 {
     let target = &mut booleans[to..to + n];
+    // a loop of its own for each order too
     match order {
         Order::Less => combine(integers, target, Under, a, b),
         Order::Greater => combine(integers, target, Above, a, b),

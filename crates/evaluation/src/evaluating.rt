@@ -32,6 +32,7 @@ pub fn evaluate(
     ensures stays { Stays frame.old frame.new }
 {
     let place = frame.place;
+    // a closed list that rows name by number: the match is what a row says
     match expression {
         Expression::Literal(kind, n) => literal_row(frame, kind, n),
         Expression::Empty(kind) => empty_row(place, kind),

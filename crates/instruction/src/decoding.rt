@@ -47,6 +47,7 @@ fn declare(x: Row) -> Option<Instruction>
     typing.has_fixed_sizes().then_some(Instruction::Change(Change::Declare(typing, start_of(x.a))))
 }
 
+// By number, as below: the file's layout gives a row's code as one.
 fn expression_of(x: Row) -> Option<Expression>
     ensures { result ≡ expression_of x }
 {
@@ -69,6 +70,7 @@ fn expression_of(x: Row) -> Option<Expression>
     }
 }
 
+// By number too, for the same reason.
 fn statement_of(x: Row) -> Option<Instruction>
     ensures { result ≡ statement_of x }
 {

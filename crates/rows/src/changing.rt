@@ -35,6 +35,7 @@ pub fn change_row<S: Source>(
     ensures lasts { Lasts frame.old frame.new }
 {
     let place = frame.place;
+    // a closed list that rows name by number: the match is what a row says
     match change {
         Change::Declare(written, start) => declare(frame, written, start),
         Change::Assign(v, a) => assign(frame, v, a),

@@ -65,6 +65,7 @@ pub fn work<S: Source>(
 {
     let place = frame.place;
     let line = line_of(lines, place.row);
+    // a closed list too: the match is what a row is
     match line.instruction {
         Instruction::Expression(expression) => express(frame, expression, intake.stream),
         Instruction::Change(change) => change_row(frame, head, change, source, intake, output),

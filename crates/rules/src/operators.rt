@@ -103,6 +103,7 @@ fn by(t: Typing, u: Typing) -> Judged
 pub fn infix(width: u16, operation: Infix, t: Typing, u: Typing) -> Judged
     ensures { result ≡ infix_rule width operation t u }
 {
+    // a closed list that rows name by number: the match gives each operator its rule
     match operation {
         Infix::Arithmetic(_) => work_each(width, Kind::Integer, Kind::Integer, t, u),
         Infix::Order(_) => work_each(width, Kind::Integer, Kind::Boolean, t, u),

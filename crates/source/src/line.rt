@@ -47,6 +47,7 @@ fn push_decimal(stack: &mut ArrayVec<u8, WIDTH>, number: u32)
     ensures room { length stack.new.items ≤ length stack.old.items + 10 }
 {
     let mut left = number;
+    // No index is counted here: the loop goes through the digits, which lie in no slice.
     while left >= 10 {
         stack.push(b'0' + (left % 10) as u8);
         left /= 10;

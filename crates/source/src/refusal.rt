@@ -21,6 +21,7 @@ impl SourceRefusal {
     }
 
     /// The refusal in words.
+    // By hand: `Display` prints by it, and its clause tells the words.
     pub fn text(self) -> &'static str
         ensures { result.now ≡ refusal_text self }
     {

@@ -28,6 +28,7 @@ impl fmt::Display for Misread {
 impl Error for Misread {}
 
 /// How the last read went.
+// An enum of three: a sheet sees it by number, and as a Result its first case would carry nothing.
 #[derive(Clone, Copy, PartialEq, Eq, Debug)]
 pub enum StreamState {
     /// A value was read.

@@ -67,6 +67,7 @@ pub fn control_row(
     ensures lasts { Lasts frame.old frame.new }
 {
     let place = frame.place;
+    // a closed list that rows name by number: the match is what a row says
     match control {
         Control::If(a, _) | Control::Test(a) => branch(frame, a, target),
         Control::Else(_) | Control::Break => Ok(After::Row(target as usize + 1)),
