@@ -2,8 +2,8 @@
 
     python3 tools/signatures.py CONTRACTS THEN NOW
 
-THEN and NOW are two trees of this repository. CONTRACTS is the kit's port/contracts.py, which finds what differs; this script says, for
-what is gone, where its promise stands now, and lays everything out as tables.
+THEN and NOW are two trees of this repository. CONTRACTS is the kit's port/contracts.py, which finds what differs; this
+script says, for what is gone, where its promise stands now, and lays everything out as tables.
 """
 import collections
 import importlib.util
