@@ -51,6 +51,7 @@ SUCCESSORS = [
     (r'^source .* scan_word', '`read_word`'),
     (r'^source_trials', '`trial` and `trials`, generic'),
     (r'^sheet_trials', '`extend_from_slice` of the bytes'),
+    (r'^tables .* (equal|equal_throughout|print)\b', 'the method of that name of `Shared`, the tables lent to be read'),
     (r'^tables ', 'the method of that name of `Tables`'),
     (r'^types src/kinds.rt (Form|Kind|Shape) (number|from_number)', '`From` for `u16`, `TryFrom<u16>`'),
     (r'^types src/kinds.rt \w+ same', 'the derived `==`'),
@@ -73,14 +74,10 @@ DEFINITIONS = [
      'the variants `Run` and `Scalar`'),
     ('`picks` `values_of`, `value_place`',
      '`along`, `place_of` of `element/specs/Operands.antt`'),
-    ('`expressions` `InIntegers`, `InBooleans`, `OfIntegers`',
-     '`Makes` of `tables/specs/Frames.antt`, for all three tables, with `OnlyIntegers` and `OnlyBooleans` of `expressions/specs/Written.antt`: the tables of other kinds stay'),
     ('`source` `good`, `bad_word`, `ended`',
      '`Ok v`, `Err BadWord`, `Err Ended`; the state is `state_of`'),
     ('`source` `going`',
      '`recorded`, without it: the readings that are left are a slice'),
-    ('`statements` `OfBooleans`',
-     '`InTables`, of the tables of the frame, with the slips and tables as they were'),
 ]
 
 # Functions that have another name now, or of which only a namesake stands: crate and name, and the names that have
@@ -124,6 +121,15 @@ MEMBERS = {
     'kind_of': '`KIND`',
     'longest': '`LONGEST`',
     'null': '`NULL`',
+}
+
+# Lemmas of a crate that stand in another one, in these or stronger words.
+ELSEWHERE = {
+    ('changes', 'along_cells'): '`along_cells` of `expressions/proofs/Pairing.antt`',
+    ('changes', 'read_above'): 'nothing needs it: a store no longer loops over its cells by hand in `changes`',
+    ('checker', 'never'): '`never` of `meaning/proofs/Shells.antt`, of any two tests; in `checker` the check finds it',
+    ('elementwise', 'row_below'): '`row_below` of `element/proofs/Lines.antt`',
+    ('laws', 'never'): '`never` of `meaning/proofs/Shells.antt`',
 }
 
 THEOREMS = """The theorems of specs/ stand as they stood: `Unique` (sheet), `Division`, `LowBytes` (arithmetic), `Examples`
@@ -197,13 +203,17 @@ def lemmas(tree):
 
 
 def gone_lemmas(then, now):
-    """Rows of lemmas of which no crate has the name any more."""
-    kept = {name for _, name in lemmas(now)}
+    """Rows of lemmas that a crate has no more, and of those that stand elsewhere."""
+    kept = lemmas(now)
+    names = {name for _, name in kept}
     crates = collections.OrderedDict()
     for crate, name in sorted(lemmas(then)):
-        if name not in kept:
+        if (crate, name) not in kept and name not in names:
             crates.setdefault(crate, []).append(code(name))
-    return [(crate, ', '.join(names)) for crate, names in crates.items()]
+    for (crate, name), says in ELSEWHERE.items():
+        if (crate, name) not in kept:
+            crates.setdefault(crate, []).append(f'{code(name)} ({says})')
+    return [(crate, ', '.join(names)) for crate, names in sorted(crates.items())]
 
 
 def beside(old, new):
