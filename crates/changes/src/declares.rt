@@ -8,16 +8,16 @@ ghost use Rattle.meaning.specs.States.{value_from};
 ghost use Rattle.meaning.specs.Values.{lawful, within};
 ghost use Rattle.meaning.specs.Works.{guarded, changed};
 ghost use Rattle.changes.specs.Declares.{fills, begins, layout_for, room_for, declare_guard, Begun, beginning};
-ghost use Rattle.tables.specs.Frames.{Covers, values, Fills, Stays};
-ghost use Rattle.tables.specs.Lent.{held, Holds};
+ghost use Rattle.tables.specs.Frames.{Covers, values, Fills};
+ghost use Rattle.tables.specs.Lent.{held, Kept, Holds};
 
 use crate::moves::unfold_padded;
 use expressions::builds::size_or;
-use expressions::lists::{is_orderly, list_at};
+use expressions::lists::{is_orderly, list_in};
 use fault::{Cause, Fault};
 use meaning::{Layout, Place};
 use rules::statements::can_take;
-use tables::Frame;
+use tables::{Tables, View};
 use types::{Shape, Size, Typing};
 
 /// The layout of a variable of nulls, whose sizes are both written.
@@ -35,17 +35,16 @@ fn guard_nulls(place: Place, w: Typing) -> Result<Layout, Fault>
 }
 
 /// A variable of nulls.
-pub fn declare_nulls(frame: &mut Frame, w: Typing) -> Result<Layout, Fault>
-    requires { Holds frame.old.place frame.old.tables }
-    ensures filled { Fills frame.old frame.old.place.row (outcome frame.old.place.width (nulls w)) result frame.new }
-    ensures within { IfOk result (λ f. within frame.old.place.width f.r f.s ≡ true) }
-    ensures stays { Stays frame.old frame.new }
+pub fn declare_nulls(place: Place, w: Typing, tables: &mut Tables) -> Result<Layout, Fault>
+    requires { Holds place tables.old }
+    ensures filled { Fills place place.row (outcome place.width (nulls w)) tables.old result tables.new }
+    ensures within { IfOk result (λ f. within place.width f.r f.s ≡ true) }
+    ensures lent { Kept tables.old tables.new }
 {
-    let place = frame.place;
     let form = guard_nulls(place, w)?;
     let to = place.start_of(place.row);
     let n = form.r * form.s;
-    frame.tables.fill_nulls(form.kind, to, n);
+    tables.fill_nulls(form.kind, to, n);
     Ok(form)
 }
 
@@ -90,14 +89,19 @@ fn has_room(w: Typing, y: Layout, columns: usize) -> bool
 }
 
 /// The layout of a variable of the written type, where it may begin with the value y, which lies at row a.
-fn guard_declare(frame: &Frame, w: Typing, a: u16, y: Layout) -> Result<Layout, Fault>
-    requires before { a < frame.now.place.row }
-    requires lawful { lawful frame.now.place.width y ≡ true }
-    requires ample { Covers frame.now.place frame.now.tables.integers.now }
-    ensures is { result ≡ declare_guard frame.now.place frame.now.tables.integers.now a w y }
-    ensures within { IfOk result (λ f. within frame.now.place.width f.r f.s ≡ true) }
+fn guard_declare(
+    place: Place,
+    w: Typing,
+    a: u16,
+    y: Layout,
+    tables: &Tables,
+) -> Result<Layout, Fault>
+    requires before { a < place.row }
+    requires lawful { lawful place.width y ≡ true }
+    requires ample { Covers place tables.now.integers.now }
+    ensures is { result ≡ declare_guard place tables.now.integers.now a w y }
+    ensures within { IfOk result (λ f. within place.width f.r f.s ≡ true) }
 {
-    let place = frame.place;
     if !can_begin(w, y) {
         return Err(place.fault(Cause::NoRule, 0));
     }
@@ -105,7 +109,7 @@ fn guard_declare(frame: &Frame, w: Typing, a: u16, y: Layout) -> Result<Layout, 
         let layout = layout_for(w, y, y.s);
         return place.guard(true, true, None, layout, has_room(w, y, y.s));
     }
-    let list = list_at(frame, a, y);
+    let list = list_in(tables, place, a, y);
     let count = list.count();
     let layout = layout_for(w, y, count);
     let agree = y.is(Shape::Scalar) || has_room(w, y, count);
@@ -114,38 +118,34 @@ fn guard_declare(frame: &Frame, w: Typing, a: u16, y: Layout) -> Result<Layout, 
 
 /// Writes the value y of row a into the cells of the row: padded with nulls, a scalar into every cell, or the integers of an
 /// interval with nulls behind them.
-fn write_beginning(frame: &mut Frame, w: Typing, a: u16, y: Layout, form: Layout)
-    requires before { a < frame.old.place.row }
-    requires begun { Begun frame.old.place.width frame.old.tables.integers.now a w y form }
-    requires ample { Holds frame.old.place frame.old.tables }
-    ensures value { held frame.new.tables ≡ changed w.kind (held frame.old.tables) (frame.old.place.row * frame.old.place.width) (λ k T. beginning k w form (value_from frame.old.place.width (held frame.old.tables) a y)) }
-    ensures stays { Stays frame.old frame.new }
+fn write_beginning(place: Place, w: Typing, a: u16, y: Layout, form: Layout, tables: &mut Tables)
+    requires before { a < place.row }
+    requires begun { Begun place.width tables.old.integers.now a w y form }
+    requires ample { Holds place tables.old }
+    ensures value { held tables.new ≡ changed w.kind (held tables.old) (place.row * place.width) (λ k T. beginning k w form (value_from place.width (held tables.old) a y)) }
+    ensures lent { Kept tables.old tables.new }
 {
-    let place = frame.place;
     let from = place.start_of(a);
     let to = place.start_of(place.row);
     if y.is(w.shape) {
-        frame
-            .tables
-            .resize_matrix(w.kind, from, y.r, y.s, to, form.r, form.s);
+        tables.resize_matrix(w.kind, from, y.r, y.s, to, form.r, form.s);
     } else if y.is(Shape::Scalar) {
-        frame.tables.spread(w.kind, from, to, form.r * form.s);
+        tables.spread(w.kind, from, to, form.r * form.s);
     } else {
-        let tables = &mut frame.tables;
         unfold_padded(tables.integers, from, to, form.r * form.s);
     }
 }
 
 /// A variable of the written type that begins with the value of row a.
-pub fn declare_row(frame: &mut Frame, w: Typing, a: u16) -> Result<Layout, Fault>
-    requires before { a < frame.old.place.row }
-    requires ample { Holds frame.old.place frame.old.tables }
-    ensures filled { Fills frame.old frame.old.place.row (by1 frame.old.place.width (values frame.old) a (declared w)) result frame.new }
-    ensures within { IfOk result (λ f. within frame.old.place.width f.r f.s ≡ true) }
-    ensures stays { Stays frame.old frame.new }
+pub fn declare_row(view: &View, w: Typing, a: u16, tables: &mut Tables) -> Result<Layout, Fault>
+    requires before { a < view.now.place.row }
+    requires ample { Holds view.now.place tables.old }
+    ensures filled { Fills view.now.place view.now.place.row (by1 view.now.place.width (values view.now tables.old) a (declared w)) tables.old result tables.new }
+    ensures within { IfOk result (λ f. within view.now.place.width f.r f.s ≡ true) }
+    ensures lent { Kept tables.old tables.new }
 {
-    let y = frame.operand(a)?;
-    let form = guard_declare(frame, w, a, y)?;
-    write_beginning(frame, w, a, y, form);
+    let y = view.operand(a)?;
+    let form = guard_declare(view.place, w, a, y, tables)?;
+    write_beginning(view.place, w, a, y, form, tables);
     Ok(form)
 }

@@ -5,20 +5,19 @@ ghost use Rattle.picks.specs.Indices.{first_outside2, place_of};
 ghost use Rattle.meaning.specs.Changes.{stored_at, stored_at_two};
 ghost use Rattle.meaning.specs.Expressions.{by3};
 ghost use Rattle.meaning.specs.Plans.{with};
-ghost use Rattle.meaning.specs.States.{value_in};
 ghost use Rattle.meaning.specs.Values.{null_of, lawful, within};
 ghost use Rattle.meaning.specs.Works.{guards, changed, Chosen};
 ghost use Rattle.changes.specs.Stores.{stores, stores_two, store_guard};
-ghost use Rattle.tables.specs.Frames.{Covers, values, Fills, Stays};
+ghost use Rattle.tables.specs.Frames.{Covers, values, Fills};
 ghost use Rattle.tables.specs.Lent.{held, Kept, Reach, Holds};
 
 use expressions::answers::answer;
-use expressions::lists::{is_orderly, list_at};
+use expressions::lists::{is_orderly, list_in};
 use expressions::operands::cells_of;
 use fault::{Cause, Fault};
 use meaning::{Layout, Place};
 use picks::Outside;
-use tables::{Frame, Tables};
+use tables::{Tables, View};
 use types::{Kind, Shape};
 
 /// Whether a value may be stored at an index of a vector: a scalar, or at several places a vector.
@@ -33,43 +32,49 @@ fn can_store(x: Layout, y: Layout, z: Layout) -> bool
 }
 
 /// The layout of the variable x, where the value z may be stored at the index y, which lies at row b.
-fn guard_store(frame: &Frame, b: u16, x: Layout, y: Layout, z: Layout) -> Result<Layout, Fault>
-    requires before { b < frame.now.place.row }
-    requires lawful { lawful frame.now.place.width y ≡ true }
-    requires ample { Covers frame.now.place frame.now.tables.integers.now }
-    ensures is { result ≡ store_guard frame.now.place frame.now.tables.integers.now b x y z }
-    ensures within { IfOk result (λ f. within frame.now.place.width f.r f.s ≡ true) }
+fn guard_store(
+    place: Place,
+    b: u16,
+    x: Layout,
+    y: Layout,
+    z: Layout,
+    tables: &Tables,
+) -> Result<Layout, Fault>
+    requires before { b < place.row }
+    requires lawful { lawful place.width y ≡ true }
+    requires ample { Covers place tables.now.integers.now }
+    ensures is { result ≡ store_guard place tables.now.integers.now b x y z }
+    ensures within { IfOk result (λ f. within place.width f.r f.s ≡ true) }
 {
-    let place = frame.place;
     if !can_store(x, y, z) {
         return Err(place.fault(Cause::NoRule, 0));
     }
-    let index = list_at(frame, b, y);
+    let index = list_in(tables, place, b, y);
     let count = index.count();
     let agree = z.is(Shape::Scalar) || count == z.s;
     place.guard(true, is_orderly(index), Some(count), x, agree)
 }
 
 /// Stores the value of row c into the vector v, at the indices that row b holds.
-pub fn store_row(frame: &mut Frame, v: u16, b: u16, c: u16) -> Result<Layout, Fault>
-    requires index { b < frame.old.place.row }
-    requires value { c < frame.old.place.row }
+pub fn store_row(view: &View, v: u16, b: u16, c: u16, tables: &mut Tables) -> Result<Layout, Fault>
+    requires index { b < view.now.place.row }
+    requires value { c < view.now.place.row }
     requires under_index { v < b }
     requires under_value { v < c }
-    requires ample { Holds frame.old.place frame.old.tables }
-    ensures filled { Fills frame.old v (by3 frame.old.place.width (values frame.old) v b c stored_at) result frame.new }
-    ensures within { IfOk result (λ f. within frame.old.place.width f.r f.s ≡ true) }
-    ensures stays { Stays frame.old frame.new }
+    requires ample { Holds view.now.place tables.old }
+    ensures filled { Fills view.now.place v (by3 view.now.place.width (values view.now tables.old) v b c stored_at) tables.old result tables.new }
+    ensures within { IfOk result (λ f. within view.now.place.width f.r f.s ≡ true) }
+    ensures lent { Kept tables.old tables.new }
 {
-    let place = frame.place;
-    let x = frame.operand(v)?;
-    let y = frame.operand(b)?;
-    let z = frame.operand(c)?;
-    let form = guard_store(frame, b, x, y, z)?;
+    let place = view.place;
+    let x = view.operand(v)?;
+    let y = view.operand(b)?;
+    let z = view.operand(c)?;
+    let form = guard_store(place, b, x, y, z, tables)?;
     let to = place.start_of(v);
-    let index = list_at(frame, b, y);
+    let index = list_in(tables, place, b, y);
     let values = cells_of(place, c, z);
-    let stored = frame.tables.store(form.kind, to, form.s, index, values);
+    let stored = tables.store(form.kind, to, form.s, index, values);
     answer(place, form, stored)
 }
 
@@ -114,35 +119,33 @@ fn guard_store_two(
 }
 
 /// Stores the scalar of row d into the matrix v, at the row and the column that rows b and c hold.
-pub fn store_two_row(frame: &mut Frame, v: u16, b: u16, c: u16, d: u16) -> Result<Layout, Fault>
-    requires row { b < frame.old.place.row }
-    requires column { c < frame.old.place.row }
-    requires value { d < frame.old.place.row }
-    requires before { v < frame.old.place.row }
-    requires ample { Holds frame.old.place frame.old.tables }
-    ensures filled { Fills frame.old v (with (value_in frame.old.place.width frame.old.slips.now (held frame.old.tables) v) (λ x. by3 frame.old.place.width (values frame.old) b c d (stored_at_two x))) result frame.new }
-    ensures within { IfOk result (λ f. within frame.old.place.width f.r f.s ≡ true) }
-    ensures stays { Stays frame.old frame.new }
+pub fn store_two_row(
+    view: &View,
+    v: u16,
+    b: u16,
+    c: u16,
+    d: u16,
+    tables: &mut Tables,
+) -> Result<Layout, Fault>
+    requires row { b < view.now.place.row }
+    requires column { c < view.now.place.row }
+    requires value { d < view.now.place.row }
+    requires before { v < view.now.place.row }
+    requires ample { Holds view.now.place tables.old }
+    ensures filled { Fills view.now.place v (with (values view.now tables.old v) (λ x. by3 view.now.place.width (values view.now tables.old) b c d (stored_at_two x))) tables.old result tables.new }
+    ensures within { IfOk result (λ f. within view.now.place.width f.r f.s ≡ true) }
+    ensures lent { Kept tables.old tables.new }
 {
-    let place = frame.place;
-    let x = frame.operand(v)?;
-    let y = frame.operand(b)?;
-    let z = frame.operand(c)?;
-    let w = frame.operand(d)?;
+    let place = view.place;
+    let x = view.operand(v)?;
+    let y = view.operand(b)?;
+    let z = view.operand(c)?;
+    let w = view.operand(d)?;
     let form = guard_store_two(place, x, y, z, w)?;
     let to = place.start_of(v);
     let row = place.start_of(b);
     let column = place.start_of(c);
     let from = place.start_of(d);
-    let stored = store_at_cells(
-        form.kind,
-        to,
-        form.r,
-        form.s,
-        row,
-        column,
-        from,
-        &mut frame.tables,
-    );
+    let stored = store_at_cells(form.kind, to, form.r, form.s, row, column, from, tables);
     answer(place, form, stored)
 }

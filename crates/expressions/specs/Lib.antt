@@ -2,4 +2,4 @@ pub mod Answers
 pub mod Pairs
 pub mod Lists
 pub mod Products
-pub mod Written
+pub mod Parts

@@ -7,12 +7,12 @@ ghost use Rattle.rules.specs.Rules.{joins};
 ghost use Rattle.meaning.specs.Expressions.{by1, by2, joined, stack as stacked, size_or, resized_to, cast_to};
 ghost use Rattle.meaning.specs.Values.{known, layout_of, vector_of, within};
 ghost use Rattle.meaning.specs.Works.{guards};
-ghost use Rattle.tables.specs.Frames.{values, Makes, Stays};
-ghost use Rattle.tables.specs.Lent.{Holds};
+ghost use Rattle.tables.specs.Frames.{values, Makes};
+ghost use Rattle.tables.specs.Lent.{Kept, Holds};
 
 use fault::Fault;
 use meaning::{Layout, Place};
-use tables::Frame;
+use tables::{Tables, View};
 use types::{Kind, Shape, Size};
 
 fn is_row(x: Layout) -> bool
@@ -32,21 +32,21 @@ fn guard_join(place: Place, x: Layout, y: Layout) -> Result<Layout, Fault>
 }
 
 /// One vector or scalar after another.
-pub fn join_row(frame: &mut Frame, a: u16, b: u16) -> Result<Layout, Fault>
-    requires left { a < frame.old.place.row }
-    requires right { b < frame.old.place.row }
-    requires ample { Holds frame.old.place frame.old.tables }
-    ensures made { Makes frame.old (by2 frame.old.place.width (values frame.old) a b joined) result frame.new }
-    ensures stays { Stays frame.old frame.new }
+pub fn join_row(view: &View, a: u16, b: u16, tables: &mut Tables) -> Result<Layout, Fault>
+    requires left { a < view.now.place.row }
+    requires right { b < view.now.place.row }
+    requires ample { Holds view.now.place tables.old }
+    ensures made { Makes view.now.place (by2 view.now.place.width (values view.now tables.old) a b joined) tables.old result tables.new }
+    ensures lent { Kept tables.old tables.new }
 {
-    let place = frame.place;
-    let x = frame.operand(a)?;
-    let y = frame.operand(b)?;
+    let place = view.place;
+    let x = view.operand(a)?;
+    let y = view.operand(b)?;
     let form = guard_join(place, x, y)?;
     let left = place.start_of(a);
     let right = place.start_of(b);
     let to = place.start_of(place.row);
-    frame.tables.join(x.kind, left, x.s, right, y.s, to);
+    tables.join(x.kind, left, x.s, right, y.s, to);
     Ok(form)
 }
 
@@ -69,21 +69,21 @@ fn guard_stack(place: Place, x: Layout, y: Layout) -> Result<Layout, Fault>
 }
 
 /// The rows of a vector or matrix, and a vector under them.
-pub fn stack_row(frame: &mut Frame, a: u16, b: u16) -> Result<Layout, Fault>
-    requires left { a < frame.old.place.row }
-    requires right { b < frame.old.place.row }
-    requires ample { Holds frame.old.place frame.old.tables }
-    ensures made { Makes frame.old (by2 frame.old.place.width (values frame.old) a b stacked) result frame.new }
-    ensures stays { Stays frame.old frame.new }
+pub fn stack_row(view: &View, a: u16, b: u16, tables: &mut Tables) -> Result<Layout, Fault>
+    requires left { a < view.now.place.row }
+    requires right { b < view.now.place.row }
+    requires ample { Holds view.now.place tables.old }
+    ensures made { Makes view.now.place (by2 view.now.place.width (values view.now tables.old) a b stacked) tables.old result tables.new }
+    ensures lent { Kept tables.old tables.new }
 {
-    let place = frame.place;
-    let x = frame.operand(a)?;
-    let y = frame.operand(b)?;
+    let place = view.place;
+    let x = view.operand(a)?;
+    let y = view.operand(b)?;
     let form = guard_stack(place, x, y)?;
     let upper = place.start_of(a);
     let lower = place.start_of(b);
     let to = place.start_of(place.row);
-    frame.tables.stack(x.kind, upper, x.r, x.s, lower, y.s, to);
+    tables.stack(x.kind, upper, x.r, x.s, lower, y.s, to);
     Ok(form)
 }
 
@@ -112,20 +112,24 @@ fn guard_resize(place: Place, r: Size, s: Size, x: Layout) -> Result<Layout, Fau
 }
 
 /// A vector or matrix, cut or padded with nulls to the written sizes.
-pub fn resize_row(frame: &mut Frame, a: u16, r: Size, s: Size) -> Result<Layout, Fault>
-    requires before { a < frame.old.place.row }
-    requires ample { Holds frame.old.place frame.old.tables }
-    ensures made { Makes frame.old (by1 frame.old.place.width (values frame.old) a (resized_to r s)) result frame.new }
-    ensures stays { Stays frame.old frame.new }
+pub fn resize_row(
+    view: &View,
+    a: u16,
+    r: Size,
+    s: Size,
+    tables: &mut Tables,
+) -> Result<Layout, Fault>
+    requires before { a < view.now.place.row }
+    requires ample { Holds view.now.place tables.old }
+    ensures made { Makes view.now.place (by1 view.now.place.width (values view.now tables.old) a (resized_to r s)) tables.old result tables.new }
+    ensures lent { Kept tables.old tables.new }
 {
-    let place = frame.place;
-    let x = frame.operand(a)?;
+    let place = view.place;
+    let x = view.operand(a)?;
     let form = guard_resize(place, r, s, x)?;
     let at = place.start_of(a);
     let to = place.start_of(place.row);
-    frame
-        .tables
-        .resize_matrix(x.kind, at, x.r, x.s, to, form.r, form.s);
+    tables.resize_matrix(x.kind, at, x.r, x.s, to, form.r, form.s);
     Ok(form)
 }
 
@@ -137,17 +141,17 @@ fn guard_cast(place: Place, kind: Kind, x: Layout) -> Result<Layout, Fault>
 }
 
 /// A value as another kind, element by element.
-pub fn cast_row(frame: &mut Frame, kind: Kind, a: u16) -> Result<Layout, Fault>
-    requires before { a < frame.old.place.row }
-    requires ample { Holds frame.old.place frame.old.tables }
-    ensures made { Makes frame.old (by1 frame.old.place.width (values frame.old) a (cast_to kind)) result frame.new }
-    ensures stays { Stays frame.old frame.new }
+pub fn cast_row(view: &View, kind: Kind, a: u16, tables: &mut Tables) -> Result<Layout, Fault>
+    requires before { a < view.now.place.row }
+    requires ample { Holds view.now.place tables.old }
+    ensures made { Makes view.now.place (by1 view.now.place.width (values view.now tables.old) a (cast_to kind)) tables.old result tables.new }
+    ensures lent { Kept tables.old tables.new }
 {
-    let place = frame.place;
-    let x = frame.operand(a)?;
+    let place = view.place;
+    let x = view.operand(a)?;
     let form = guard_cast(place, kind, x)?;
     let at = place.start_of(a);
     let to = place.start_of(place.row);
-    frame.tables.cast(x.kind, kind, at, to, x.area(place.width));
+    tables.cast(x.kind, kind, at, to, x.area(place.width));
     Ok(form)
 }

@@ -1,8 +1,8 @@
 //! Rows of arithmetic, orders and logic, element by element.
 ghost use Rattle.std.specs.Prelude.{◌<◌, ◌≤◌, ◌*◌, length};
 ghost use Rattle.meaning.specs.Expressions.{by2, calculated, compared, decided_by};
-ghost use Rattle.expressions.specs.Written.{OnlyIntegers, OnlyBooleans};
-ghost use Rattle.tables.specs.Frames.{Covers, values, Makes, Stays};
+ghost use Rattle.expressions.specs.Parts.{InIntegers, InBooleans, OfIntegers};
+ghost use Rattle.tables.specs.Frames.{Covers, values_in};
 
 use crate::operands::{cells_of, guard_pair};
 use arithmetic::faults::at_row;
@@ -11,72 +11,80 @@ use arithmetic::truths::{Logic, Order};
 use elementwise::infix::{calculate, compare, decide};
 use fault::Fault;
 use meaning::Layout;
-use tables::Frame;
+use tables::View;
 use types::Kind;
 
 /// A row of arithmetic.
-pub fn calculate_row(frame: &mut Frame, op: Arithmetic, a: u16, b: u16) -> Result<Layout, Fault>
-    requires left { a < frame.old.place.row }
-    requires right { b < frame.old.place.row }
-    requires ample { Covers frame.old.place frame.old.tables.integers.now }
-    ensures made { Makes frame.old (by2 frame.old.place.width (values frame.old) a b (calculated op)) result frame.new }
-    ensures stays { Stays frame.old frame.new }
-    ensures only { OnlyIntegers frame.old frame.new }
+pub fn calculate_row(
+    view: &View,
+    op: Arithmetic,
+    a: u16,
+    b: u16,
+    integers: &mut [i32],
+) -> Result<Layout, Fault>
+    requires left { a < view.now.place.row }
+    requires right { b < view.now.place.row }
+    requires ample { Covers view.now.place integers.old }
+    ensures { InIntegers view.now.place (λ t. by2 view.now.place.width (values_in view.now t) a b (calculated op)) integers.old result integers.new }
 {
-    let place = frame.place;
-    let x = frame.operand(a)?;
-    let y = frame.operand(b)?;
+    let place = view.place;
+    let x = view.operand(a)?;
+    let y = view.operand(b)?;
     let form = guard_pair(place, Kind::Integer, Kind::Integer, x, y)?;
     let left = cells_of(place, a, x);
     let right = cells_of(place, b, y);
     let to = place.start_of(place.row);
-    let tables = &mut frame.tables;
-    let worked = calculate(tables.integers, op, left, right, to, form.r * form.s);
+    let worked = calculate(integers, op, left, right, to, form.r * form.s);
     at_row(worked, place.row, place.line)?;
     Ok(form)
 }
 
 /// A row that orders integers.
-pub fn compare_row(frame: &mut Frame, op: Order, a: u16, b: u16) -> Result<Layout, Fault>
-    requires left { a < frame.old.place.row }
-    requires right { b < frame.old.place.row }
-    requires integers { frame.old.place.row * frame.old.place.width ≤ length frame.old.tables.integers.now }
-    requires ample { Covers frame.old.place frame.old.tables.booleans.now }
-    ensures made { Makes frame.old (by2 frame.old.place.width (values frame.old) a b (compared op)) result frame.new }
-    ensures stays { Stays frame.old frame.new }
-    ensures only { OnlyBooleans frame.old frame.new }
+pub fn compare_row(
+    view: &View,
+    op: Order,
+    a: u16,
+    b: u16,
+    integers: &[i32],
+    booleans: &mut [bool],
+) -> Result<Layout, Fault>
+    requires left { a < view.now.place.row }
+    requires right { b < view.now.place.row }
+    requires integers { view.now.place.row * view.now.place.width ≤ length integers.now }
+    requires ample { Covers view.now.place booleans.old }
+    ensures { OfIntegers view.now.place (λ t. by2 view.now.place.width (values_in view.now t) a b (compared op)) integers.now booleans.old result booleans.new }
 {
-    let place = frame.place;
-    let x = frame.operand(a)?;
-    let y = frame.operand(b)?;
+    let place = view.place;
+    let x = view.operand(a)?;
+    let y = view.operand(b)?;
     let form = guard_pair(place, Kind::Integer, Kind::Boolean, x, y)?;
     let left = cells_of(place, a, x);
     let right = cells_of(place, b, y);
     let to = place.start_of(place.row);
-    let tables = &mut frame.tables;
-    let integers = &mut *tables.integers;
-    let booleans = &mut *tables.booleans;
     compare(integers, booleans, op, left, right, to, form.r * form.s);
     Ok(form)
 }
 
 /// A row that joins booleans. Both operands are worked, whatever the first is.
-pub fn decide_row(frame: &mut Frame, op: Logic, a: u16, b: u16) -> Result<Layout, Fault>
-    requires left { a < frame.old.place.row }
-    requires right { b < frame.old.place.row }
-    requires ample { Covers frame.old.place frame.old.tables.booleans.now }
-    ensures made { Makes frame.old (by2 frame.old.place.width (values frame.old) a b (decided_by op)) result frame.new }
-    ensures stays { Stays frame.old frame.new }
-    ensures only { OnlyBooleans frame.old frame.new }
+pub fn decide_row(
+    view: &View,
+    op: Logic,
+    a: u16,
+    b: u16,
+    booleans: &mut [bool],
+) -> Result<Layout, Fault>
+    requires left { a < view.now.place.row }
+    requires right { b < view.now.place.row }
+    requires ample { Covers view.now.place booleans.old }
+    ensures { InBooleans view.now.place (λ t. by2 view.now.place.width (values_in view.now t) a b (decided_by op)) booleans.old result booleans.new }
 {
-    let place = frame.place;
-    let x = frame.operand(a)?;
-    let y = frame.operand(b)?;
+    let place = view.place;
+    let x = view.operand(a)?;
+    let y = view.operand(b)?;
     let form = guard_pair(place, Kind::Boolean, Kind::Boolean, x, y)?;
     let left = cells_of(place, a, x);
     let right = cells_of(place, b, y);
     let to = place.start_of(place.row);
-    let tables = &mut frame.tables;
-    decide(tables.booleans, op, left, right, to, form.r * form.s);
+    decide(booleans, op, left, right, to, form.r * form.s);
     Ok(form)
 }

@@ -4,25 +4,24 @@ ghost use Rattle.meaning.specs.Works.{Made};
 ghost use Rattle.meaning.specs.Expressions.{literal, empty};
 ghost use Rattle.meaning.specs.Plans.{outcome};
 ghost use Rattle.meaning.specs.States.{Tables as Held};
-ghost use Rattle.tables.specs.Frames.{Makes, Stays};
-ghost use Rattle.tables.specs.Lent.{Holds};
+ghost use Rattle.tables.specs.Frames.{Makes};
+ghost use Rattle.tables.specs.Lent.{Kept, Holds};
 
 use fault::Fault;
 use meaning::{Layout, Place};
-use tables::Frame;
+use tables::Tables;
 use types::Kind;
 
 /// A literal of a kind.
-pub fn literal_row(frame: &mut Frame, kind: Kind, n: i32) -> Result<Layout, Fault>
-    requires wide { 1 < frame.old.place.width }
-    requires ample { Holds frame.old.place frame.old.tables }
-    ensures made { Makes frame.old (outcome frame.old.place.width (literal kind n)) result frame.new }
-    ensures stays { Stays frame.old frame.new }
+pub fn literal_row(place: Place, kind: Kind, n: i32, tables: &mut Tables) -> Result<Layout, Fault>
+    requires wide { 1 < place.width }
+    requires ample { Holds place tables.old }
+    ensures made { Makes place (outcome place.width (literal kind n)) tables.old result tables.new }
+    ensures lent { Kept tables.old tables.new }
 {
-    let place = frame.place;
     let form = place.guard(true, true, None, Layout::scalar(kind), true)?;
     let to = place.start_of(place.row);
-    frame.tables.write_literal(kind, n, to);
+    tables.write_literal(kind, n, to);
     Ok(form)
 }
 

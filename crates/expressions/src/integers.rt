@@ -8,14 +8,14 @@ ghost use Rattle.meaning.specs.Expressions.{by1, by2, interval, measured, stream
 ghost use Rattle.meaning.specs.Plans.{outcome};
 ghost use Rattle.meaning.specs.Values.{known, scalar_of, within};
 ghost use Rattle.meaning.specs.Works.{guards};
-ghost use Rattle.expressions.specs.Written.{OnlyIntegers};
-ghost use Rattle.tables.specs.Frames.{Covers, values, Makes, Stays};
+ghost use Rattle.expressions.specs.Parts.{InIntegers};
+ghost use Rattle.tables.specs.Frames.{Covers, values_in};
 
 use element::cells::join;
 use fault::Fault;
 use meaning::{Layout, Place};
 use source::StreamState;
-use tables::{Frame, Tables};
+use tables::View;
 use types::{Kind, Shape};
 
 fn are_bounds(x: Layout, y: Layout) -> bool
@@ -25,12 +25,12 @@ fn are_bounds(x: Layout, y: Layout) -> bool
 }
 
 /// Whether the integer at `a` is not above the one at `b`.
-fn is_upward(tables: &Tables, a: usize, b: usize) -> bool
-    requires left { a < length tables.now.integers.now }
-    requires right { b < length tables.now.integers.now }
-    ensures { result ≡ int_le (slice_index_or tables.now.integers.now a (pos 0)) (slice_index_or tables.now.integers.now b (pos 0)) }
+fn is_upward(integers: &[i32], a: usize, b: usize) -> bool
+    requires left { a < length integers.now }
+    requires right { b < length integers.now }
+    ensures { result ≡ int_le (slice_index_or integers.now a (pos 0)) (slice_index_or integers.now b (pos 0)) }
 {
-    tables.integers[a] <= tables.integers[b]
+    integers[a] <= integers[b]
 }
 
 /// Writes a size as an integer.
@@ -43,18 +43,16 @@ fn write_size(integers: &mut [i32], n: usize, to: usize)
 }
 
 /// The interval from one integer to another.
-pub fn interval_row(frame: &mut Frame, a: u16, b: u16) -> Result<Layout, Fault>
-    requires wide { 1 < frame.old.place.width }
-    requires left { a < frame.old.place.row }
-    requires right { b < frame.old.place.row }
-    requires ample { Covers frame.old.place frame.old.tables.integers.now }
-    ensures made { Makes frame.old (by2 frame.old.place.width (values frame.old) a b interval) result frame.new }
-    ensures stays { Stays frame.old frame.new }
-    ensures only { OnlyIntegers frame.old frame.new }
+pub fn interval_row(view: &View, a: u16, b: u16, integers: &mut [i32]) -> Result<Layout, Fault>
+    requires wide { 1 < view.now.place.width }
+    requires left { a < view.now.place.row }
+    requires right { b < view.now.place.row }
+    requires ample { Covers view.now.place integers.old }
+    ensures { InIntegers view.now.place (λ t. by2 view.now.place.width (values_in view.now t) a b interval) integers.old result integers.new }
 {
-    let place = frame.place;
-    let x = frame.operand(a)?;
-    let y = frame.operand(b)?;
+    let place = view.place;
+    let x = view.operand(a)?;
+    let y = view.operand(b)?;
     let low = place.start_of(a);
     let high = place.start_of(b);
     let bounds = Layout {
@@ -65,13 +63,12 @@ pub fn interval_row(frame: &mut Frame, a: u16, b: u16) -> Result<Layout, Fault>
     };
     let form = place.guard(
         are_bounds(x, y),
-        is_upward(&frame.tables, low, high),
+        is_upward(integers, low, high),
         None,
         bounds,
         true,
     )?;
-    let tables = &mut frame.tables;
-    join(tables.integers, low, 1, high, 1, place.start_of(place.row));
+    join(integers, low, 1, high, 1, place.start_of(place.row));
     Ok(form)
 }
 
@@ -91,62 +88,49 @@ fn guard_measure(place: Place, shape: Shape, x: Layout) -> Result<Layout, Fault>
 
 // The three differ in a shape and a field: one function would take both, and a clause that ties them to what is asked.
 /// The length of a vector.
-pub fn length_row(frame: &mut Frame, a: u16) -> Result<Layout, Fault>
-    requires ample { Covers frame.old.place frame.old.tables.integers.now }
-    ensures made { Makes frame.old (by1 frame.old.place.width (values frame.old) a (measured Length)) result frame.new }
-    ensures stays { Stays frame.old frame.new }
-    ensures only { OnlyIntegers frame.old frame.new }
+pub fn length_row(view: &View, a: u16, integers: &mut [i32]) -> Result<Layout, Fault>
+    requires ample { Covers view.now.place integers.old }
+    ensures { InIntegers view.now.place (λ t. by1 view.now.place.width (values_in view.now t) a (measured Length)) integers.old result integers.new }
 {
-    let place = frame.place;
-    let x = frame.operand(a)?;
+    let place = view.place;
+    let x = view.operand(a)?;
     let form = guard_measure(place, Shape::Vector, x)?;
-    let tables = &mut frame.tables;
-    write_size(tables.integers, x.s, place.start_of(place.row));
+    write_size(integers, x.s, place.start_of(place.row));
     Ok(form)
 }
 
 /// How many rows a matrix has.
-pub fn rows_row(frame: &mut Frame, a: u16) -> Result<Layout, Fault>
-    requires ample { Covers frame.old.place frame.old.tables.integers.now }
-    ensures made { Makes frame.old (by1 frame.old.place.width (values frame.old) a (measured Rows)) result frame.new }
-    ensures stays { Stays frame.old frame.new }
-    ensures only { OnlyIntegers frame.old frame.new }
+pub fn rows_row(view: &View, a: u16, integers: &mut [i32]) -> Result<Layout, Fault>
+    requires ample { Covers view.now.place integers.old }
+    ensures { InIntegers view.now.place (λ t. by1 view.now.place.width (values_in view.now t) a (measured Rows)) integers.old result integers.new }
 {
-    let place = frame.place;
-    let x = frame.operand(a)?;
+    let place = view.place;
+    let x = view.operand(a)?;
     let form = guard_measure(place, Shape::Matrix, x)?;
-    let tables = &mut frame.tables;
-    write_size(tables.integers, x.r, place.start_of(place.row));
+    write_size(integers, x.r, place.start_of(place.row));
     Ok(form)
 }
 
 /// How many columns a matrix has.
-pub fn columns_row(frame: &mut Frame, a: u16) -> Result<Layout, Fault>
-    requires ample { Covers frame.old.place frame.old.tables.integers.now }
-    ensures made { Makes frame.old (by1 frame.old.place.width (values frame.old) a (measured Columns)) result frame.new }
-    ensures stays { Stays frame.old frame.new }
-    ensures only { OnlyIntegers frame.old frame.new }
+pub fn columns_row(view: &View, a: u16, integers: &mut [i32]) -> Result<Layout, Fault>
+    requires ample { Covers view.now.place integers.old }
+    ensures { InIntegers view.now.place (λ t. by1 view.now.place.width (values_in view.now t) a (measured Columns)) integers.old result integers.new }
 {
-    let place = frame.place;
-    let x = frame.operand(a)?;
+    let place = view.place;
+    let x = view.operand(a)?;
     let form = guard_measure(place, Shape::Matrix, x)?;
-    let tables = &mut frame.tables;
-    write_size(tables.integers, x.s, place.start_of(place.row));
+    write_size(integers, x.s, place.start_of(place.row));
     Ok(form)
 }
 
 /// How the last read went.
-pub fn state_row(frame: &mut Frame, state: StreamState) -> Result<Layout, Fault>
-    requires ample { Covers frame.old.place frame.old.tables.integers.now }
-    ensures made { Makes frame.old (outcome frame.old.place.width (streamed state)) result frame.new }
-    ensures stays { Stays frame.old frame.new }
-    ensures only { OnlyIntegers frame.old frame.new }
+pub fn state_row(place: Place, state: StreamState, integers: &mut [i32]) -> Result<Layout, Fault>
+    requires ample { Covers place integers.old }
+    ensures { InIntegers place (λ t. outcome place.width (streamed state)) integers.old result integers.new }
 {
-    let place = frame.place;
     let form = place.guard(true, true, None, Layout::scalar(Kind::Integer), true)?;
-    let tables = &mut frame.tables;
     write_size(
-        tables.integers,
+        integers,
         usize::from(state.number()),
         place.start_of(place.row),
     );

@@ -5,14 +5,14 @@ ghost use Rattle.instruction.specs.declared.instructions.Prefix.TheVariants.{Min
 ghost use Rattle.meaning.specs.Expressions.{by1, prefixed};
 ghost use Rattle.meaning.specs.Values.{layout_of, known, within};
 ghost use Rattle.meaning.specs.Works.{guards};
-ghost use Rattle.expressions.specs.Written.{OnlyIntegers, OnlyBooleans};
-ghost use Rattle.tables.specs.Frames.{Covers, values, Makes, Stays};
+ghost use Rattle.expressions.specs.Parts.{InIntegers, InBooleans};
+ghost use Rattle.tables.specs.Frames.{Covers, values_in};
 
 use arithmetic::faults::at_row;
 use elementwise::prefix::{negate, not};
 use fault::Fault;
 use meaning::{Layout, Place};
-use tables::Frame;
+use tables::View;
 use types::Kind;
 
 /// The layout of what a prefix operator gives of a value, which is of the operator's kind.
@@ -26,38 +26,32 @@ fn guard_prefix(place: Place, kind: Kind, x: Layout) -> Result<Layout, Fault>
 }
 
 /// The minus of integers.
-pub fn negate_row(frame: &mut Frame, a: u16) -> Result<Layout, Fault>
-    requires before { a < frame.old.place.row }
-    requires ample { Covers frame.old.place frame.old.tables.integers.now }
-    ensures made { Makes frame.old (by1 frame.old.place.width (values frame.old) a (prefixed Minus)) result frame.new }
-    ensures stays { Stays frame.old frame.new }
-    ensures only { OnlyIntegers frame.old frame.new }
+pub fn negate_row(view: &View, a: u16, integers: &mut [i32]) -> Result<Layout, Fault>
+    requires before { a < view.now.place.row }
+    requires ample { Covers view.now.place integers.old }
+    ensures { InIntegers view.now.place (λ t. by1 view.now.place.width (values_in view.now t) a (prefixed Minus)) integers.old result integers.new }
 {
-    let place = frame.place;
-    let x = frame.operand(a)?;
+    let place = view.place;
+    let x = view.operand(a)?;
     let form = guard_prefix(place, Kind::Integer, x)?;
     let at = place.start_of(a);
     let to = place.start_of(place.row);
-    let tables = &mut frame.tables;
-    let worked = negate(tables.integers, at, to, form.r * form.s);
+    let worked = negate(integers, at, to, form.r * form.s);
     at_row(worked, place.row, place.line)?;
     Ok(form)
 }
 
 /// The opposite of booleans.
-pub fn not_row(frame: &mut Frame, a: u16) -> Result<Layout, Fault>
-    requires before { a < frame.old.place.row }
-    requires ample { Covers frame.old.place frame.old.tables.booleans.now }
-    ensures made { Makes frame.old (by1 frame.old.place.width (values frame.old) a (prefixed Not)) result frame.new }
-    ensures stays { Stays frame.old frame.new }
-    ensures only { OnlyBooleans frame.old frame.new }
+pub fn not_row(view: &View, a: u16, booleans: &mut [bool]) -> Result<Layout, Fault>
+    requires before { a < view.now.place.row }
+    requires ample { Covers view.now.place booleans.old }
+    ensures { InBooleans view.now.place (λ t. by1 view.now.place.width (values_in view.now t) a (prefixed Not)) booleans.old result booleans.new }
 {
-    let place = frame.place;
-    let x = frame.operand(a)?;
+    let place = view.place;
+    let x = view.operand(a)?;
     let form = guard_prefix(place, Kind::Boolean, x)?;
     let at = place.start_of(a);
     let to = place.start_of(place.row);
-    let tables = &mut frame.tables;
-    not(tables.booleans, at, to, form.r * form.s);
+    not(booleans, at, to, form.r * form.s);
     Ok(form)
 }

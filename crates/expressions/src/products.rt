@@ -8,14 +8,14 @@ ghost use Rattle.elementwise.specs.Results.{collected, Wrote};
 ghost use Rattle.meaning.specs.Expressions.{by2, multiplied};
 ghost use Rattle.meaning.specs.Values.{area, known, within};
 ghost use Rattle.expressions.specs.Products.{product_layout, multiplies, product_guard, product_cells};
-ghost use Rattle.expressions.specs.Written.{OnlyIntegers};
-ghost use Rattle.tables.specs.Frames.{Covers, values, Makes, Stays};
+ghost use Rattle.expressions.specs.Parts.{InIntegers};
+ghost use Rattle.tables.specs.Frames.{Covers, values_in};
 
 use arithmetic::faults::{ElementFault, at_row};
 use elementwise::products::{dot_product, matrix_product};
 use fault::Fault;
 use meaning::{Layout, Place};
-use tables::Frame;
+use tables::View;
 use types::{Kind, Shape};
 
 fn product_layout(x: Layout, y: Layout) -> Layout
@@ -103,23 +103,20 @@ fn write_product(
 }
 
 /// The dot product of vectors, or the product of matrices.
-pub fn multiply_row(frame: &mut Frame, a: u16, b: u16) -> Result<Layout, Fault>
-    requires left { a < frame.old.place.row }
-    requires right { b < frame.old.place.row }
-    requires ample { Covers frame.old.place frame.old.tables.integers.now }
-    ensures made { Makes frame.old (by2 frame.old.place.width (values frame.old) a b multiplied) result frame.new }
-    ensures stays { Stays frame.old frame.new }
-    ensures only { OnlyIntegers frame.old frame.new }
+pub fn multiply_row(view: &View, a: u16, b: u16, integers: &mut [i32]) -> Result<Layout, Fault>
+    requires left { a < view.now.place.row }
+    requires right { b < view.now.place.row }
+    requires ample { Covers view.now.place integers.old }
+    ensures { InIntegers view.now.place (λ t. by2 view.now.place.width (values_in view.now t) a b multiplied) integers.old result integers.new }
 {
-    let place = frame.place;
-    let x = frame.operand(a)?;
-    let y = frame.operand(b)?;
+    let place = view.place;
+    let x = view.operand(a)?;
+    let y = view.operand(b)?;
     let form = guard_product(place, x, y)?;
     let left = place.start_of(a);
     let right = place.start_of(b);
     let to = place.start_of(place.row);
-    let tables = &mut frame.tables;
-    let worked = write_product(x, y, tables.integers, left, right, to);
+    let worked = write_product(x, y, integers, left, right, to);
     at_row(worked, place.row, place.line)?;
     Ok(form)
 }

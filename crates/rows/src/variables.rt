@@ -6,14 +6,14 @@ ghost use Rattle.meaning.specs.Values.{within};
 ghost use Rattle.statements.specs.Frames.{InTables, settled};
 ghost use Rattle.rows.specs.Changing.{StartsAfter, start_outcome, beginning, changing, begun};
 ghost use Rattle.tables.specs.Frames.{values, Fills, Lasts, Stays};
-ghost use Rattle.tables.specs.Lent.{held, Holds};
+ghost use Rattle.tables.specs.Lent.{held, Kept, Holds};
 
 use changes::assigns::assign_row;
 use changes::declares::{declare_nulls, declare_row};
 use changes::stores::{store_row, store_two_row};
 use fault::Fault;
 use meaning::{After, Layout, Place, Slip};
-use tables::Frame;
+use tables::{Frame, Tables, View};
 use types::Typing as Type;
 
 /// The row after a statement is next, unless the statement faulted.
@@ -36,16 +36,16 @@ fn note(place: Place, res: Result<Layout, Fault>, slips: &mut [Slip])
 }
 
 /// Writes what a declaration gives to its variable.
-fn begin(frame: &mut Frame, w: Type, start: Option<u16>) -> Result<Layout, Fault>
-    requires before { StartsAfter frame.old.place.row start }
-    requires ample { Holds frame.old.place frame.old.tables }
-    ensures filled { Fills frame.old frame.old.place.row (start_outcome frame.old.place.width (values frame.old) w start) result frame.new }
-    ensures within { IfOk result (λ f. within frame.old.place.width f.r f.s ≡ true) }
-    ensures stays { Stays frame.old frame.new }
+fn begin(view: &View, w: Type, start: Option<u16>, tables: &mut Tables) -> Result<Layout, Fault>
+    requires before { StartsAfter view.now.place.row start }
+    requires ample { Holds view.now.place tables.old }
+    ensures filled { Fills view.now.place view.now.place.row (start_outcome view.now.place.width (values view.now tables.old) w start) tables.old result tables.new }
+    ensures within { IfOk result (λ f. within view.now.place.width f.r f.s ≡ true) }
+    ensures lent { Kept tables.old tables.new }
 {
     match start {
-        None => declare_nulls(frame, w),
-        Some(a) => declare_row(frame, w, a),
+        None => declare_nulls(view.place, w, tables),
+        Some(a) => declare_row(view, w, a, tables),
     }
 }
 
@@ -58,7 +58,9 @@ pub fn declare(frame: &mut Frame, w: Type, start: Option<u16>) -> Result<After, 
     ensures lasts { Lasts frame.old frame.new }
 {
     let place = frame.place;
-    let declared = begin(frame, w, start);
+    let slips = &mut *frame.slips;
+    let view = View { place, slips };
+    let declared = begin(&view, w, start, &mut frame.tables);
     note(place, declared, frame.slips);
     proceed(place, declared)
 }
@@ -72,7 +74,9 @@ pub fn assign(frame: &mut Frame, v: u16, a: u16) -> Result<After, Fault>
     ensures stays { Stays frame.old frame.new }
 {
     let place = frame.place;
-    let assigned = assign_row(frame, v, a);
+    let slips = &mut *frame.slips;
+    let view = View { place, slips };
+    let assigned = assign_row(&view, v, a, &mut frame.tables);
     proceed(place, assigned)
 }
 
@@ -87,7 +91,9 @@ pub fn store(frame: &mut Frame, v: u16, b: u16, c: u16) -> Result<After, Fault>
     ensures stays { Stays frame.old frame.new }
 {
     let place = frame.place;
-    let stored = store_row(frame, v, b, c);
+    let slips = &mut *frame.slips;
+    let view = View { place, slips };
+    let stored = store_row(&view, v, b, c, &mut frame.tables);
     proceed(place, stored)
 }
 
@@ -102,6 +108,8 @@ pub fn store_two(frame: &mut Frame, v: u16, b: u16, c: u16, d: u16) -> Result<Af
     ensures stays { Stays frame.old frame.new }
 {
     let place = frame.place;
-    let stored = store_two_row(frame, v, b, c, d);
+    let slips = &mut *frame.slips;
+    let view = View { place, slips };
+    let stored = store_two_row(&view, v, b, c, d, &mut frame.tables);
     proceed(place, stored)
 }

@@ -19,7 +19,7 @@ use meaning::After;
 use source::{Source, StreamState};
 use statements::control::control_row;
 use statements::settle::settle;
-use tables::{Frame, Intake, Output};
+use tables::{Frame, Intake, Output, View};
 use types::Typing;
 
 /// What check passed at a row.
@@ -40,7 +40,9 @@ fn express(frame: &mut Frame, expression: Expression, stream: StreamState) -> Re
     ensures lasts { Lasts frame.old frame.new }
 {
     let place = frame.place;
-    let made = evaluate(frame, expression, stream);
+    let slips = &mut *frame.slips;
+    let view = View { place, slips };
+    let made = evaluate(&view, expression, stream, &mut frame.tables);
     settle(place, made, frame.slips)
 }
 

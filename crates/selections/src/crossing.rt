@@ -3,15 +3,15 @@ ghost use Rattle.std.specs.Prelude.{◌≡◌, ◌<◌, true, IfOk};
 ghost use Rattle.meaning.specs.Expressions.{by3, cross_shape, pick_two};
 ghost use Rattle.meaning.specs.Values.{within};
 ghost use Rattle.selections.specs.Choices.{cross_guard, cross_layout};
-ghost use Rattle.tables.specs.Frames.{values, Makes, Stays};
-ghost use Rattle.tables.specs.Lent.{Holds};
+ghost use Rattle.tables.specs.Frames.{values, Makes};
+ghost use Rattle.tables.specs.Lent.{Kept, Holds};
 
 use expressions::answers::answer;
-use expressions::lists::{is_orderly, list_at};
+use expressions::lists::{is_orderly, list_in};
 use fault::Fault;
 use meaning::{Layout, Place};
 use picks::Index;
-use tables::Frame;
+use tables::{Tables, View};
 use types::{Kind, Shape};
 
 /// The shape of what is picked: an index that is a scalar, of a row or of a column, drops a dimension.
@@ -71,26 +71,30 @@ fn guard_cross(
 }
 
 /// The elements of a matrix where the rows that one index names cross the columns that another names.
-pub fn pick_two_row(frame: &mut Frame, a: u16, b: u16, c: u16) -> Result<Layout, Fault>
-    requires wide { 1 < frame.old.place.width }
-    requires whole { a < frame.old.place.row }
-    requires row { b < frame.old.place.row }
-    requires column { c < frame.old.place.row }
-    requires ample { Holds frame.old.place frame.old.tables }
-    ensures made { Makes frame.old (by3 frame.old.place.width (values frame.old) a b c pick_two) result frame.new }
-    ensures stays { Stays frame.old frame.new }
+pub fn pick_two_row(
+    view: &View,
+    a: u16,
+    b: u16,
+    c: u16,
+    tables: &mut Tables,
+) -> Result<Layout, Fault>
+    requires wide { 1 < view.now.place.width }
+    requires whole { a < view.now.place.row }
+    requires row { b < view.now.place.row }
+    requires column { c < view.now.place.row }
+    requires ample { Holds view.now.place tables.old }
+    ensures made { Makes view.now.place (by3 view.now.place.width (values view.now tables.old) a b c pick_two) tables.old result tables.new }
+    ensures lent { Kept tables.old tables.new }
 {
-    let place = frame.place;
-    let x = frame.operand(a)?;
-    let y = frame.operand(b)?;
-    let z = frame.operand(c)?;
-    let rows = list_at(frame, b, y);
-    let columns = list_at(frame, c, z);
+    let place = view.place;
+    let x = view.operand(a)?;
+    let y = view.operand(b)?;
+    let z = view.operand(c)?;
+    let rows = list_in(tables, place, b, y);
+    let columns = list_in(tables, place, c, z);
     let form = guard_cross(place, x, y, z, rows, columns)?;
     let from = place.start_of(a);
     let to = place.start_of(place.row);
-    let picked = frame
-        .tables
-        .pick_matrix(x.kind, from, x.r, x.s, rows, columns, to);
+    let picked = tables.pick_matrix(x.kind, from, x.r, x.s, rows, columns, to);
     answer(place, form, picked)
 }

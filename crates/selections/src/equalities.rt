@@ -4,13 +4,13 @@ ghost use Rattle.element.specs.Cells.{put};
 ghost use Rattle.meaning.specs.Expressions.{by2, equated, says as says_of};
 ghost use Rattle.meaning.specs.Values.{lawful};
 ghost use Rattle.selections.specs.Equalities.{equates, equate_guard, same_at};
-ghost use Rattle.tables.specs.Frames.{values, Makes, Stays};
-ghost use Rattle.tables.specs.Lent.{held, Holds};
+ghost use Rattle.tables.specs.Frames.{values, Makes};
+ghost use Rattle.tables.specs.Lent.{seen, Kept, Holds, Shows};
 
 use fault::Fault;
 use instruction::Equality;
 use meaning::{Layout, Place};
-use tables::Frame;
+use tables::{Shared, Tables, View};
 use types::{Kind, Shape};
 
 /// Whether values of these layouts may be compared: of one kind, element by element, or two intervals.
@@ -34,27 +34,24 @@ fn guard_equate(place: Place, x: Layout, y: Layout) -> Result<Layout, Fault>
 }
 
 /// Whether the values of layouts x at row a and y at row b have the same elements, a scalar spread over the other.
-fn are_equal(frame: &Frame, a: u16, b: u16, x: Layout, y: Layout) -> bool
-    requires wide { 1 < frame.now.place.width }
-    requires left { a < frame.now.place.row }
-    requires right { b < frame.now.place.row }
-    requires left_lawful { lawful frame.now.place.width x ≡ true }
-    requires right_lawful { lawful frame.now.place.width y ≡ true }
-    requires ample { Holds frame.now.place frame.now.tables }
-    ensures { result ≡ same_at (held frame.now.tables) x y (a * frame.now.place.width) (b * frame.now.place.width) }
+fn are_equal(place: Place, a: u16, b: u16, x: Layout, y: Layout, tables: &Shared) -> bool
+    requires wide { 1 < place.width }
+    requires left { a < place.row }
+    requires right { b < place.row }
+    requires left_lawful { lawful place.width x ≡ true }
+    requires right_lawful { lawful place.width y ≡ true }
+    requires ample { Shows place tables.now }
+    ensures { result ≡ same_at (seen tables.now) x y (a * place.width) (b * place.width) }
 {
-    let place = frame.place;
     let left = place.start_of(a);
     let right = place.start_of(b);
     let many = x.area(place.width);
     if y.is(Shape::Scalar) {
-        frame.tables.equal_throughout(x.kind, left, many, right)
+        tables.equal_throughout(x.kind, left, many, right)
     } else if x.is(Shape::Scalar) {
-        frame
-            .tables
-            .equal_throughout(x.kind, right, y.area(place.width), left)
+        tables.equal_throughout(x.kind, right, y.area(place.width), left)
     } else {
-        frame.tables.equal(x.kind, left, right, many)
+        tables.equal(x.kind, left, right, many)
     }
 }
 
@@ -77,20 +74,25 @@ fn write_truth(booleans: &mut [bool], truth: bool, to: usize)
 }
 
 /// Whether two values are equal, or unequal: one boolean.
-pub fn equate_row(frame: &mut Frame, op: Equality, a: u16, b: u16) -> Result<Layout, Fault>
-    requires wide { 1 < frame.old.place.width }
-    requires left { a < frame.old.place.row }
-    requires right { b < frame.old.place.row }
-    requires ample { Holds frame.old.place frame.old.tables }
-    ensures made { Makes frame.old (by2 frame.old.place.width (values frame.old) a b (equated op)) result frame.new }
-    ensures stays { Stays frame.old frame.new }
+pub fn equate_row(
+    view: &View,
+    op: Equality,
+    a: u16,
+    b: u16,
+    tables: &mut Tables,
+) -> Result<Layout, Fault>
+    requires wide { 1 < view.now.place.width }
+    requires left { a < view.now.place.row }
+    requires right { b < view.now.place.row }
+    requires ample { Holds view.now.place tables.old }
+    ensures made { Makes view.now.place (by2 view.now.place.width (values view.now tables.old) a b (equated op)) tables.old result tables.new }
+    ensures lent { Kept tables.old tables.new }
 {
-    let place = frame.place;
-    let x = frame.operand(a)?;
-    let y = frame.operand(b)?;
+    let place = view.place;
+    let x = view.operand(a)?;
+    let y = view.operand(b)?;
     let form = guard_equate(place, x, y)?;
-    let same = are_equal(frame, a, b, x, y);
-    let tables = &mut frame.tables;
+    let same = are_equal(place, a, b, x, y, &tables.shared());
     write_truth(tables.booleans, says(op, same), place.start_of(place.row));
     Ok(form)
 }

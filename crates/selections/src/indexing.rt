@@ -3,15 +3,15 @@ ghost use Rattle.std.specs.Prelude.{◌≡◌, ◌<◌, true, IfOk};
 ghost use Rattle.meaning.specs.Expressions.{by2, pick as pick_plan};
 ghost use Rattle.meaning.specs.Values.{within};
 ghost use Rattle.selections.specs.Choices.{pick_guard, pick_layout};
-ghost use Rattle.tables.specs.Frames.{values, Makes, Stays};
-ghost use Rattle.tables.specs.Lent.{Holds};
+ghost use Rattle.tables.specs.Frames.{values, Makes};
+ghost use Rattle.tables.specs.Lent.{Kept, Holds};
 
 use expressions::answers::answer;
-use expressions::lists::{is_orderly, list_at};
+use expressions::lists::{is_orderly, list_in};
 use fault::Fault;
 use meaning::{Layout, Place};
 use picks::Index;
-use tables::Frame;
+use tables::{Tables, View};
 use types::{Kind, Shape};
 
 /// The layout of what a list of indices picks: an index that is a scalar picks a scalar.
@@ -45,21 +45,21 @@ fn guard_pick(place: Place, x: Layout, y: Layout, list: Index) -> Result<Layout,
 }
 
 /// The elements of a vector that an index names, or each of several.
-pub fn pick_row(frame: &mut Frame, a: u16, b: u16) -> Result<Layout, Fault>
-    requires wide { 1 < frame.old.place.width }
-    requires left { a < frame.old.place.row }
-    requires right { b < frame.old.place.row }
-    requires ample { Holds frame.old.place frame.old.tables }
-    ensures made { Makes frame.old (by2 frame.old.place.width (values frame.old) a b pick_plan) result frame.new }
-    ensures stays { Stays frame.old frame.new }
+pub fn pick_row(view: &View, a: u16, b: u16, tables: &mut Tables) -> Result<Layout, Fault>
+    requires wide { 1 < view.now.place.width }
+    requires left { a < view.now.place.row }
+    requires right { b < view.now.place.row }
+    requires ample { Holds view.now.place tables.old }
+    ensures made { Makes view.now.place (by2 view.now.place.width (values view.now tables.old) a b pick_plan) tables.old result tables.new }
+    ensures lent { Kept tables.old tables.new }
 {
-    let place = frame.place;
-    let x = frame.operand(a)?;
-    let y = frame.operand(b)?;
-    let list = list_at(frame, b, y);
+    let place = view.place;
+    let x = view.operand(a)?;
+    let y = view.operand(b)?;
+    let list = list_in(tables, place, b, y);
     let form = guard_pick(place, x, y, list)?;
     let from = place.start_of(a);
     let to = place.start_of(place.row);
-    let picked = frame.tables.pick(x.kind, from, x.s, list, to);
+    let picked = tables.pick(x.kind, from, x.s, list, to);
     answer(place, form, picked)
 }

@@ -5,17 +5,17 @@ ghost use Rattle.picks.specs.Indices.{amount, index_count, IndexBelow};
 ghost use Rattle.meaning.specs.Expressions.{by2, stepped_by};
 ghost use Rattle.meaning.specs.Values.{within};
 ghost use Rattle.selections.specs.Strides.{strides, step_guard, stepped_in};
-ghost use Rattle.tables.specs.Frames.{values, Makes, Stays};
+ghost use Rattle.tables.specs.Frames.{values, Makes};
 ghost use Rattle.tables.specs.Lent.{held, Kept, Reach, Holds};
 
 use element::steps::step_count;
-use expressions::lists::{is_orderly, list_at};
+use expressions::lists::{is_orderly, list_in};
 use fault::Fault;
 use meaning::{Layout, Place};
 use picks::Index;
 use picks::indices::span;
 use picks::intervals::step_interval;
-use tables::{Frame, Tables};
+use tables::{Tables, View};
 use types::{Kind, Shape};
 
 /// The step that the cell `at` holds, and 0 for a negative one.
@@ -84,21 +84,21 @@ fn write_steps(kind: Kind, list: Index, step: usize, to: usize, tables: &mut Tab
 }
 
 /// The first element of a vector or an interval, and every so many after it, as a vector.
-pub fn step_row(frame: &mut Frame, a: u16, b: u16) -> Result<Layout, Fault>
-    requires wide { 1 < frame.old.place.width }
-    requires left { a < frame.old.place.row }
-    requires right { b < frame.old.place.row }
-    requires ample { Holds frame.old.place frame.old.tables }
-    ensures made { Makes frame.old (by2 frame.old.place.width (values frame.old) a b stepped_by) result frame.new }
-    ensures stays { Stays frame.old frame.new }
+pub fn step_row(view: &View, a: u16, b: u16, tables: &mut Tables) -> Result<Layout, Fault>
+    requires wide { 1 < view.now.place.width }
+    requires left { a < view.now.place.row }
+    requires right { b < view.now.place.row }
+    requires ample { Holds view.now.place tables.old }
+    ensures made { Makes view.now.place (by2 view.now.place.width (values view.now tables.old) a b stepped_by) tables.old result tables.new }
+    ensures lent { Kept tables.old tables.new }
 {
-    let place = frame.place;
-    let x = frame.operand(a)?;
-    let y = frame.operand(b)?;
-    let list = list_at(frame, a, x);
-    let step = step_at(&frame.tables, place.start_of(b));
+    let place = view.place;
+    let x = view.operand(a)?;
+    let y = view.operand(b)?;
+    let list = list_in(tables, place, a, x);
+    let step = step_at(tables, place.start_of(b));
     let form = guard_step(place, x, y, list, step)?;
     let to = place.start_of(place.row);
-    write_steps(x.kind, list, step, to, &mut frame.tables);
+    write_steps(x.kind, list, step, to, tables);
     Ok(form)
 }

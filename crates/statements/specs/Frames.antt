@@ -1,5 +1,5 @@
 -- The state of a sheet by its parts, and rows that work in some of them, whatever the others hold.
-use Rattle.std.specs.Prelude.{◌≡◌, ℕ, ◌+◌, List, Ok, Err, Result}
+use Rattle.std.specs.Prelude.{◌≡◌, ℕ, ◌+◌, Bool, List, ℤ, Ok, Err, Result}
 use Rattle.types.specs.declared.typing.Typing.{Typing}
 use Rattle.source.specs.declared.state.StreamState.{StreamState}
 use Rattle.fault.specs.declared.faults.Fault.{Fault}
@@ -10,7 +10,7 @@ use Rattle.meaning.specs.declared.after.After.TheVariants.{Row}
 use Rattle.meaning.specs.declared.layouts.Layout.{Layout}
 use Rattle.meaning.specs.declared.places.Place.{Place}
 use Rattle.meaning.specs.declared.slips.Slip.{Slip}
-use Rattle.meaning.specs.States.{State, Tables, value_at, holding, blank_slip, slip_of, slip_at}
+use Rattle.meaning.specs.States.{State, Tables, tables, value_at, holding, blank_slip, slip_of, slip_at}
 use Rattle.meaning.specs.Acts.{Answer, Step, step, turned, branches, prints, reads, returns, advances, again, resumes, reopens, turns}
 
 abbrev pub state_of : ℕ → StreamState → List Slip → Tables → List ℕ → List ℕ → ℕ → State
@@ -28,6 +28,10 @@ feeding s taken stream slips t waiting = record { taken = taken; stream = stream
 -- reads slips, and writes nothing
 abbrev pub OfSlips : (State → Step) → List Slip → Answer → Type 0
 OfSlips f slips a = (s : State) (t : Tables) → step a (holding s slips t) ≡ f (holding s slips t)
+
+-- reads slips and booleans, and writes nothing
+abbrev pub OfBooleans : (State → Step) → List Slip → List Bool → Answer → Type 0
+OfBooleans f slips bs a = (s : State) (cs is : List ℤ) → step a (holding s slips (tables bs cs is)) ≡ f (holding s slips (tables bs cs is))
 
 -- the slips and the tables change from `slips` and `t` to `after` and `u`
 abbrev pub InTables : (State → Step) → List Slip → Tables → Answer → List Slip → Tables → Type 0

@@ -1,6 +1,6 @@
 //! Rows that decide which row is next.
-ghost use Rattle.std.specs.Prelude.{◌<◌, length};
-ghost use Rattle.statements.specs.Frames.{InTables, resuming, reopening, turning};
+ghost use Rattle.std.specs.Prelude.{◌<◌, ◌≤◌, ◌*◌, length};
+ghost use Rattle.statements.specs.Frames.{InTables, branching, resuming, reopening, turning};
 ghost use Rattle.statements.specs.Ready.{TurnDomain, DomainBefore, Ready};
 ghost use Rattle.tables.specs.Frames.{Lasts};
 ghost use Rattle.tables.specs.Lent.{held, Holds};
@@ -11,7 +11,7 @@ use checker::Line;
 use fault::Fault;
 use instruction::{Control, Instruction};
 use meaning::After;
-use tables::Frame;
+use tables::{Frame, View};
 
 /// Back to row i, where a control row stands: a loop begins anew, an each takes its next element, and an if is left.
 fn resume(frame: &mut Frame, i: u16, control: Control) -> Result<After, Fault>
@@ -53,6 +53,19 @@ fn reopen(frame: &mut Frame, i: u16, instruction: Instruction) -> Result<After, 
     }
 }
 
+/// A condition of the row at work.
+fn branch_at(frame: &Frame, a: u16, target: u16) -> Result<After, Fault>
+    requires before { a < frame.now.place.row }
+    requires ample { frame.now.place.row * frame.now.place.width ≤ length frame.now.tables.booleans.now }
+    ensures { InTables (branching frame.now.place a target) frame.now.slips.now (held frame.now.tables) result frame.now.slips.now (held frame.now.tables) }
+{
+    let view = View {
+        place: frame.place,
+        slips: frame.slips,
+    };
+    branch(&view, a, target, frame.tables.booleans)
+}
+
 /// A control row. A jump goes on at the row after its target, which check has found.
 pub fn control_row(
     frame: &mut Frame,
@@ -69,7 +82,7 @@ pub fn control_row(
     let place = frame.place;
     // a closed list that rows name by number: the match is what a row says
     match control {
-        Control::If(a, _) | Control::Test(a) => branch(frame, a, target),
+        Control::If(a, _) | Control::Test(a) => branch_at(frame, a, target),
         Control::Else(_) | Control::Break => Ok(After::Row(target as usize + 1)),
         Control::Loop(_) => Ok(After::Row(place.row as usize + 1)),
         Control::Each(a, end) => advance(frame, place.row, a, end, 0),

@@ -5,7 +5,7 @@ ghost use Rattle.statements.specs.Frames.{InTables, advancing, repeating};
 ghost use Rattle.tables.specs.Frames.{Lasts};
 ghost use Rattle.tables.specs.Lent.{held, Kept, Reach, Holds};
 
-use expressions::lists::{is_orderly, list_at};
+use expressions::lists::{is_orderly, list_in};
 use fault::{Cause, Fault};
 use meaning::{After, Layout, Slip};
 use picks::Index;
@@ -48,7 +48,7 @@ pub fn advance(frame: &mut Frame, i: u16, a: u16, end: u16, n: usize) -> Result<
     if !is_ranged(x) {
         return Err(place.fault(Cause::NoRule, 0));
     }
-    let list = list_at(frame, a, x);
+    let list = list_in(&frame.tables, place, a, x);
     if !is_orderly(list) {
         return Err(place.fault(Cause::Disordered, 0));
     }

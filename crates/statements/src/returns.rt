@@ -7,7 +7,7 @@ ghost use Rattle.statements.specs.Frames.{OfSlips, returning};
 
 use fault::{Cause, Fault};
 use meaning::{After, Layout};
-use tables::Frame;
+use tables::View;
 use types::{Size, Typing};
 
 /// Whether a size that may be open allows n.
@@ -32,15 +32,15 @@ fn has_head_type(head: Typing, x: Layout) -> bool
 }
 
 /// A return: the value of row a is the sheet's, where it is of the head's kind, shape and written sizes.
-pub fn return_row(frame: &Frame, head: Typing, a: u16) -> Result<After, Fault>
-    ensures { OfSlips (returning frame.now.place head a) frame.now.slips.now result }
+pub fn return_row(view: &View, head: Typing, a: u16) -> Result<After, Fault>
+    ensures { OfSlips (returning view.now.place head a) view.now.slips.now result }
 {
-    let x = frame.operand(a)?;
+    let x = view.operand(a)?;
     if !has_head_type(head, x) {
-        return Err(frame.place.fault(Cause::NoRule, 0));
+        return Err(view.place.fault(Cause::NoRule, 0));
     }
     if !has_head_sizes(head, x) {
-        return Err(frame.place.fault(Cause::SizesDiffer, 0));
+        return Err(view.place.fault(Cause::SizesDiffer, 0));
     }
     Ok(After::Return)
 }

@@ -5,4 +5,3 @@ pub mod Same
 pub mod Shaping
 pub mod Streaming
 pub mod Reaching
-pub mod Staying

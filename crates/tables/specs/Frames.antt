@@ -4,27 +4,32 @@ use Rattle.fault.specs.declared.faults.Fault.{Fault}
 use Rattle.meaning.specs.declared.layouts.Layout.{Layout}
 use Rattle.meaning.specs.declared.places.Place.{Place}
 use Rattle.meaning.specs.Plans.{Outcome}
-use Rattle.meaning.specs.States.{value_in}
+use Rattle.meaning.specs.States.{Tables, value_in}
 use Rattle.meaning.specs.Values.{Value}
 use Rattle.meaning.specs.Works.{Made, Filled}
 use Rattle.tables.specs.declared.frames.Frame.{Frame}
+use Rattle.tables.specs.declared.frames.View.{View}
+use Rattle.tables.specs.declared.lent.Tables.{Tables as Lent}
 use Rattle.tables.specs.Lent.{held, Kept}
 
 -- the values that rows hold
-abbrev pub values : Frame → ℕ → Option Value
-values f i = value_in f.place.width f.slips.now (held f.tables) i
+abbrev pub values_in : View → Tables → ℕ → Option Value
+values_in x t i = value_in x.place.width x.slips.now t i
+
+abbrev pub values : View → Lent → ℕ → Option Value
+values x t = values_in x (held t)
 
 -- a table that has the cells of the row at work, and of those before it
 abbrev pub Covers : {X : Type 0} → Place → List X → Type 0
 Covers p xs = p.row * p.width + p.width ≤ length xs
 
 -- an expression row: its value in its own cells; or its fault, and its cells are free
-abbrev pub Makes : Frame → Outcome → Result Layout Fault → Frame → Type 0
-Makes f o r g = Made f.place o (held f.tables) r (held g.tables)
+abbrev pub Makes : Place → Outcome → Lent → Result Layout Fault → Lent → Type 0
+Makes p o t r u = Made p o (held t) r (held u)
 
 -- a statement: a value in the cells of row i; or its fault, and nothing is written
-abbrev pub Fills : Frame → ℕ → Outcome → Result Layout Fault → Frame → Type 0
-Fills f i o r g = Filled f.place i o (held f.tables) r (held g.tables)
+abbrev pub Fills : Place → ℕ → Outcome → Lent → Result Layout Fault → Lent → Type 0
+Fills p i o t r u = Filled p i o (held t) r (held u)
 
 -- the row works where it did, in the tables that it was lent
 pub record Lasts (f g : Frame) : Type 0 where

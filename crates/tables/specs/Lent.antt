@@ -4,10 +4,14 @@ use Rattle.meaning.specs.States.{Tables, tables}
 use Rattle.meaning.specs.declared.places.Place.{Place}
 use Rattle.meaning.specs.Works.{Ample}
 use Rattle.tables.specs.declared.lent.Tables.{Tables as Lent}
+use Rattle.tables.specs.declared.lent.Shared.{Shared}
 
 -- what the cells hold
 abbrev pub held : Lent → Tables
 held t = tables t.booleans.now t.characters.now t.integers.now
+
+abbrev pub seen : Shared → Tables
+seen t = tables t.booleans.now t.characters.now t.integers.now
 
 -- each table has at least n cells
 pub record Reach (n : ℕ) (t : Tables) : Type 0 where
@@ -18,6 +22,9 @@ pub record Reach (n : ℕ) (t : Tables) : Type 0 where
 -- each table has the cells of the row at work, and of those before it
 abbrev pub Holds : Place → Lent → Type 0
 Holds p t = Ample p (length t.booleans.now) (length t.characters.now) (length t.integers.now)
+
+abbrev pub Shows : Place → Shared → Type 0
+Shows p t = Ample p (length t.booleans.now) (length t.characters.now) (length t.integers.now)
 
 -- the tables are still those that were lent, as long as they were, whatever their cells hold
 pub record Kept (t u : Lent) : Type 0 where

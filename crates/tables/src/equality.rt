@@ -4,9 +4,9 @@ ghost use Rattle.element.specs.Cells.{cells};
 ghost use Rattle.meaning.specs.Elements.{same_cells};
 ghost use Rattle.meaning.specs.States.{table_of};
 ghost use Rattle.meaning.specs.Values.{null_of};
-ghost use Rattle.tables.specs.Lent.{held, Reach};
+ghost use Rattle.tables.specs.Lent.{seen, Reach};
 
-use crate::lent::Tables;
+use crate::lent::Shared;
 use element::{Element, equality};
 use types::Kind;
 
@@ -19,12 +19,12 @@ fn equal_to_cell<E: Element>(table: &[E], at: usize, n: usize, scalar: usize) ->
     equality::equal_throughout(table, at, n, table[scalar])
 }
 
-impl Tables<'_> {
+impl Shared<'_> {
     /// Whether the n cells from `a` on hold what the n cells from `b` on hold.
     pub fn equal(&self, kind: Kind, a: usize, b: usize, n: usize) -> bool
-        requires left { Reach (a + n) (held self.now) }
-        requires right { Reach (b + n) (held self.now) }
-        ensures { result ≡ same_cells kind (cells (table_of kind (held self.now)) a n) (cells (table_of kind (held self.now)) b n) }
+        requires left { Reach (a + n) (seen self.now) }
+        requires right { Reach (b + n) (seen self.now) }
+        ensures { result ≡ same_cells kind (cells (table_of kind (seen self.now)) a n) (cells (table_of kind (seen self.now)) b n) }
     {
         match kind {
             Kind::Boolean => equality::equal(self.booleans, a, b, n),
@@ -35,9 +35,9 @@ impl Tables<'_> {
 
     /// Whether each of the n cells from `at` on holds what the cell `scalar` holds.
     pub fn equal_throughout(&self, kind: Kind, at: usize, n: usize, scalar: usize) -> bool
-        requires scalar { Reach (scalar + 1) (held self.now) }
-        requires within { Reach (at + n) (held self.now) }
-        ensures { result ≡ same_cells kind (cells (table_of kind (held self.now)) at n) (replicate n (slice_index_or (table_of kind (held self.now)) scalar (null_of kind))) }
+        requires scalar { Reach (scalar + 1) (seen self.now) }
+        requires within { Reach (at + n) (seen self.now) }
+        ensures { result ≡ same_cells kind (cells (table_of kind (seen self.now)) at n) (replicate n (slice_index_or (table_of kind (seen self.now)) scalar (null_of kind))) }
     {
         match kind {
             Kind::Boolean => equal_to_cell(self.booleans, at, n, scalar),

@@ -26,6 +26,30 @@ impl Frame<'_> {
         ensures is { result ≡ found self.now.place (layout_at self.now.place.width self.now.slips.now i) }
         ensures lawful { IfOk result (λ f. lawful self.now.place.width f ≡ true) }
     {
+        let view = View {
+            place: self.place,
+            slips: self.slips,
+        };
+        view.operand(i)
+    }
+}
+
+/// What a row that changes no slip works on beside the tables: where it stands, and what the rows hold. The ghost fields
+/// carry the ranges of its numbers, as those of a frame do.
+#[derive(Clone, Copy)]
+pub struct View<'a> {
+    pub place: Place,
+    pub slips: &'a [Slip],
+    ghost width_fits: { place.width < 65536 },
+    ghost row_fits: { place.row < 65536 },
+}
+
+impl View<'_> {
+    /// The layout of operand i; without a value there the row has no rule.
+    pub fn operand(&self, i: u16) -> Result<Layout, Fault>
+        ensures is { result ≡ found self.now.place (layout_at self.now.place.width self.now.slips.now i) }
+        ensures lawful { IfOk result (λ f. lawful self.now.place.width f ≡ true) }
+    {
         self.place.operand(self.slips, i)
     }
 }

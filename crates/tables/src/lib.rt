@@ -11,7 +11,7 @@ mod moves;
 mod outputs;
 mod streams;
 
-pub use frames::Frame;
+pub use frames::{Frame, View};
 pub use intakes::Intake;
-pub use lent::Tables;
+pub use lent::{Shared, Tables};
 pub use outputs::Output;

@@ -6,5 +6,5 @@ ghost use Rattle.std.specs.Prelude.{◌≤◌, length};
 pub struct Output<'a> {
     pub bytes: &'a mut [u8],
     pub printed: usize,
-    ghost room: { printed ≤ length bytes.now },
+    pub ghost room: { printed ≤ length bytes.now },
 }

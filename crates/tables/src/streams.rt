@@ -10,11 +10,11 @@ ghost use Rattle.std.specs.Result.{result_unwrap_or};
 ghost use Rattle.source.specs.States.{state_of};
 ghost use Rattle.source.specs.Taking.{gone, counted};
 ghost use Rattle.tables.specs.Shapes.{shaped_text};
-ghost use Rattle.tables.specs.Lent.{held, Kept, Reach};
+ghost use Rattle.tables.specs.Lent.{held, seen, Kept, Reach};
 ghost use Rattle.tables.specs.Outputs.{Goes, Prints};
 
 use crate::intakes::Intake;
-use crate::lent::Tables;
+use crate::lent::{Shared, Tables};
 use crate::outputs::Output;
 use element::Element;
 use print::{print_matrix, print_scalar, print_vector};
@@ -64,7 +64,7 @@ fn read_cell<E: Element + Readable, S: Source>(
     table[to] = read.unwrap_or(E::NULL);
 }
 
-impl Tables<'_> {
+impl Shared<'_> {
     /// Prints a value of this kind and shape, whose r × s cells begin at `at`, behind what is printed, and says whether its text fits. Of an interval it prints nothing.
     pub fn print(
         &self,
@@ -78,8 +78,8 @@ impl Tables<'_> {
         requires fixed { fixed (layout_of kind shape r s) ≡ true }
         requires rows { r ≤ 1024 }
         requires columns { s ≤ 1024 }
-        requires within { Reach (at + r * s) (held self.now) }
-        ensures prints { Prints (shape_text shape kind r s (cells (table_of kind (held self.now)) at (r * s))) output.old result output.new }
+        requires within { Reach (at + r * s) (seen self.now) }
+        ensures prints { Prints (shape_text shape kind r s (cells (table_of kind (seen self.now)) at (r * s))) output.old result output.new }
         ensures goes { Goes output.old output.new }
     {
         let bytes = &mut *output.bytes;
@@ -97,7 +97,9 @@ impl Tables<'_> {
             None => false,
         }
     }
+}
 
+impl Tables<'_> {
     /// Reads a value of a kind from the source into the cell `to`, and notes in the intake how the read went.
     pub fn read<S: Source>(&mut self, kind: Kind, source: &mut S, intake: &mut Intake, to: usize)
         requires within { Reach (to + 1) (held self.old) }

@@ -12,7 +12,9 @@ impl fmt::Display for Escaped<'_> {
             match b {
                 // In double quotes an apostrophe needs no escape, which std would give it.
                 b'\'' => write!(f, "'")?,
-                _ => write!(f, "{}", b.escape_ascii())?,
+                b'\t' | b'\n' | b'\r' | b' '..=b'~' => write!(f, "{}", b.escape_ascii())?,
+                // by the number at once: `escape_ascii` hands such a byte on in four steps
+                _ => write!(f, "\\x{b:02x}")?,
             }
         }
         write!(f, "\"")

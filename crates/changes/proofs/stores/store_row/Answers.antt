@@ -11,36 +11,36 @@ use Rattle.changes.proofs.stores.store_row.Goals as goal
 pub returns-in_err-form : goal.returns-in_err-form
 returns-in_err-form c =
     let a = c.args in
-    let p = a.frame.now.place in
-    let t = held a.frame.now.tables in
+    let p = a.view.now.place in
+    let t = held a.tables.now in
     let x = c.in_ok-x.x in
     let y = c.in_ok-y.y in
     let z = c.in_ok-z.z in
     let r = c.from_residual-in_err-form.result in
     record {
-      filled = filled_3 p a.v a.frame.now.slips.now t t r a.v a.b a.c stored_at x y z c.in_ok-x.ensures.is c.in_ok-y.ensures.is c.in_ok-z.ensures.is
+      filled = filled_3 p a.v a.view.now.slips.now t t r a.v a.b a.c stored_at x y z c.in_ok-x.ensures.is c.in_ok-y.ensures.is c.in_ok-z.ensures.is
           (store_refused p t a.v a.b a.c x y z c.in_ok-y.ensures.lawful r c.in_err-form.field-0.0 c.from_residual-in_err-form.ensures.1 c.in_err-form.ensures.is);
       within = IfOk-from_err r _ c.from_residual-in_err-form.ensures.0;
-      stays = search rules;
+      lent = search rules;
     }
 
-pub list_at-index-requires : goal.list_at-index-requires
-list_at-index-requires c =
+pub list_in-index-requires : goal.list_in-index-requires
+list_in-index-requires c =
     let a = c.args in
-    let p = a.frame.now.place in
-    let t = held a.frame.now.tables in
+    let p = a.view.now.place in
+    let t = held a.tables.now in
     let x = c.in_ok-x.x in
     let y = c.in_ok-y.y in
     let z = c.in_ok-z.z in
     let ly = c.in_ok-y.ensures.lawful in
-    next_cell p.width a.b p.row (length a.frame.now.tables.integers.now) y c.requires.index ly
+    next_cell p.width a.b p.row (length a.tables.now.integers.now) y c.requires.index ly
     (by_list x y z (ruled p t a.v a.b a.c x y z ly c.in_ok-form.form c.in_ok-form.ensures.is c.in_ok-x.ensures.lawful c.in_ok-z.ensures.lawful)) c.requires.ample.integers
 
 pub store-stored-requires : goal.store-stored-requires
 store-stored-requires c =
     let a = c.args in
-    let p = a.frame.now.place in
-    let t = held a.frame.now.tables in
+    let p = a.view.now.place in
+    let t = held a.tables.now in
     let x = c.in_ok-x.x in
     let y = c.in_ok-y.y in
     let z = c.in_ok-z.z in
@@ -50,20 +50,20 @@ store-stored-requires c =
     let form = c.in_ok-form.form in
     let g = c.in_ok-form.ensures.is in
     let to = c.start_of-to in
-    let ix = c.list_at-index in
+    let ix = c.list_in-index in
     let vs = c.cells_of-values in
     record {
       above = store_above p t a.v a.b a.c x y z ly form g lx lz to.result to.ensures ix.result ix.ensures vs.result vs.ensures c.requires.index c.requires.value c.requires.under_index c.requires.under_value;
       indices = store_under p t a.v a.b a.c x y z ly form g lx lz to.result to.ensures ix.result ix.ensures vs.result vs.ensures c.requires.index c.requires.value c.requires.under_index c.requires.under_value;
-      seen = store_seen p t a.v a.b a.c x y z ly form g lx lz to.result to.ensures ix.result ix.ensures vs.result vs.ensures c.requires.index c.requires.value c.requires.under_index c.requires.under_value (length a.frame.now.tables.integers.now) c.requires.ample.integers;
-      within = reach a.frame.now.tables c.requires.ample (store_fits p t a.v a.b a.c x y z ly form g lx lz to.result to.ensures ix.result ix.ensures vs.result vs.ensures c.requires.index c.requires.value c.requires.under_index c.requires.under_value (p.row * p.width + p.width) (omega arith));
+      seen = store_seen p t a.v a.b a.c x y z ly form g lx lz to.result to.ensures ix.result ix.ensures vs.result vs.ensures c.requires.index c.requires.value c.requires.under_index c.requires.under_value (length a.tables.now.integers.now) c.requires.ample.integers;
+      within = reach a.tables.now c.requires.ample (store_fits p t a.v a.b a.c x y z ly form g lx lz to.result to.ensures ix.result ix.ensures vs.result vs.ensures c.requires.index c.requires.value c.requires.under_index c.requires.under_value (p.row * p.width + p.width) (omega arith));
     }
 
 pub returns : goal.returns
 returns c =
     let a = c.args in
-    let p = a.frame.now.place in
-    let t = held a.frame.now.tables in
+    let p = a.view.now.place in
+    let t = held a.tables.now in
     let u = held c.store-stored.new.self in
     let x = c.in_ok-x.x in
     let y = c.in_ok-y.y in
@@ -74,12 +74,12 @@ returns c =
     let form = c.in_ok-form.form in
     let g = c.in_ok-form.ensures.is in
     let to = c.start_of-to in
-    let ix = c.list_at-index in
+    let ix = c.list_in-index in
     let vs = c.cells_of-values in
     let s = c.store-stored.result in
     record {
-      filled = filled_3 p a.v a.frame.now.slips.now t u c.answer.result a.v a.b a.c stored_at x y z c.in_ok-x.ensures.is c.in_ok-y.ensures.is c.in_ok-z.ensures.is
+      filled = filled_3 p a.v a.view.now.slips.now t u c.answer.result a.v a.b a.c stored_at x y z c.in_ok-x.ensures.is c.in_ok-y.ensures.is c.in_ok-z.ensures.is
           (store_filled p t a.v a.b a.c x y z ly form g lx lz to.result to.ensures ix.result ix.ensures vs.result vs.ensures u s c.answer.result c.store-stored.ensures.value c.answer.ensures);
       within = answered_within p form s c.answer.result c.answer.ensures c.in_ok-form.ensures.within;
-      stays = search rules;
+      lent = search rules;
     }

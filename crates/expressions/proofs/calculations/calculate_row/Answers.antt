@@ -1,29 +1,28 @@
-use Rattle.std.proofs.Common.{List, ℤ, refl, arith}
+use Rattle.std.proofs.Common.{List, [], ℤ, refl, arith}
 use Rattle.types.specs.declared.kinds.Kind.TheVariants.{Integer}
 use Rattle.arithmetic.specs.Exact.{exact}
 use Rattle.elementwise.specs.Results.{collected, map2}
 use Rattle.meaning.specs.Expressions.{calculated}
-use Rattle.meaning.specs.States.{value_from}
+use Rattle.meaning.specs.States.{tables, value_from}
 use Rattle.meaning.proofs.Shells.{refused_2, made_2}
 use Rattle.meaning.proofs.Rows.{within_small}
 use Rattle.expressions.proofs.Pairing.{pair_elements, left_end, right_end}
 use Rattle.expressions.proofs.Writing.{wrote_value, wrote_fault}
-use Rattle.tables.specs.Lent.{held}
 use Rattle.expressions.proofs.calculations.calculate_row.Goals as goal
 
-pub returns-in_err-form-clause-made : goal.returns-in_err-form-clause-made
-returns-in_err-form-clause-made c =
-    refused_2 c.args.frame.now.place c.args.frame.now.slips.now (held c.args.frame.now.tables) c.from_residual-in_err-form.result c.in_err-form.field-0.0 c.from_residual-in_err-form.ensures.1
+pub returns-in_err-form : goal.returns-in_err-form
+returns-in_err-form c bs cs =
+    refused_2 c.args.view.now.place c.args.view.now.slips.now (tables bs cs c.args.integers.now) c.from_residual-in_err-form.result c.in_err-form.field-0.0 c.from_residual-in_err-form.ensures.1
     c.args.a c.args.b (calculated c.args.op) c.in_ok-x.x c.in_ok-y.y c.in_ok-x.ensures.is c.in_ok-y.ensures.is c.in_err-form.ensures.is
 
 pub overflow_mul-form : goal.overflow_mul-form
-overflow_mul-form c = let s = within_small c.args.frame.now.place.width c.in_ok-form.form c.in_ok-form.ensures.within in omega (arith, s.elements)
+overflow_mul-form c = let s = within_small c.args.view.now.place.width c.in_ok-form.form c.in_ok-form.ensures.within in omega (arith, s.elements)
 
 pub calculate-worked-requires : goal.calculate-worked-requires
 calculate-worked-requires c =
-    let p = c.args.frame.now.place in
+    let p = c.args.view.now.place in
     let f = λ (xs ys : List ℤ). collected 1 (map2 (exact c.args.op) xs ys) in
-    let t = held c.args.frame.now.tables in
+    let t = tables [] [] c.args.integers.now in
     let s = within_small p.width c.in_ok-form.form c.in_ok-form.ensures.within in
     let l = left_end p Integer Integer f t c.args.a c.args.b c.in_ok-x.x c.in_ok-y.y c.in_ok-form.form c.in_ok-form.ensures.is
     c.in_ok-x.ensures.lawful c.in_ok-y.ensures.lawful c.cells_of-left.result c.cells_of-right.result c.cells_of-left.ensures c.cells_of-right.ensures c.start_of-to.result c.start_of-to.ensures s.elements c.requires.left in
@@ -31,31 +30,31 @@ calculate-worked-requires c =
     c.in_ok-x.ensures.lawful c.in_ok-y.ensures.lawful c.cells_of-left.result c.cells_of-right.result c.cells_of-left.ensures c.cells_of-right.ensures c.start_of-to.result c.start_of-to.ensures s.elements c.requires.right in
     record { left = l; right = r; within = omega (arith, s.elements, c.start_of-to.ensures, c.requires.ample) }
 
-pub returns-in_err-at_row-clause-made : goal.returns-in_err-at_row-clause-made
-returns-in_err-at_row-clause-made c =
-    let p = c.args.frame.now.place in
+pub returns-in_err-at_row : goal.returns-in_err-at_row
+returns-in_err-at_row c bs cs =
+    let p = c.args.view.now.place in
     let x = c.in_ok-x.x in
     let y = c.in_ok-y.y in
     let form = c.in_ok-form.form in
     let f = λ (xs ys : List ℤ). collected 1 (map2 (exact c.args.op) xs ys) in
-    let t = held c.args.frame.now.tables in
+    let t = tables bs cs c.args.integers.now in
     let s = within_small p.width form c.in_ok-form.ensures.within in
     let e = pair_elements p Integer Integer f t c.args.a c.args.b x y form c.in_ok-form.ensures.is
     c.in_ok-x.ensures.lawful c.in_ok-y.ensures.lawful c.cells_of-left.result c.cells_of-right.result c.cells_of-left.ensures c.cells_of-right.ensures in
-    made_2 p c.args.frame.now.slips.now t _ c.from_residual-in_err-at_row.result c.args.a c.args.b (calculated c.args.op) x y c.in_ok-x.ensures.is c.in_ok-y.ensures.is
+    made_2 p c.args.view.now.slips.now t _ c.from_residual-in_err-at_row.result c.args.a c.args.b (calculated c.args.op) x y c.in_ok-x.ensures.is c.in_ok-y.ensures.is
     (wrote_fault p t (calculated c.args.op (value_from p.width t c.args.a x) (value_from p.width t c.args.b y)) form c.in_ok-form.ensures.is refl _ e c.start_of-to.result _ c.start_of-to.ensures _ c.calculate-worked.result c.calculate-worked.ensures
     s.elements c.calculate-worked.auto.table c.from_residual-in_err-at_row.result c.in_err-at_row.field-0.0 c.from_residual-in_err-at_row.ensures.1 c.in_err-at_row.ensures)
 
-pub returns-clause-made : goal.returns-clause-made
-returns-clause-made c =
-    let p = c.args.frame.now.place in
+pub returns : goal.returns
+returns c bs cs =
+    let p = c.args.view.now.place in
     let x = c.in_ok-x.x in
     let y = c.in_ok-y.y in
     let form = c.in_ok-form.form in
     let f = λ (xs ys : List ℤ). collected 1 (map2 (exact c.args.op) xs ys) in
-    let t = held c.args.frame.now.tables in
+    let t = tables bs cs c.args.integers.now in
     let e = pair_elements p Integer Integer f t c.args.a c.args.b x y form c.in_ok-form.ensures.is
     c.in_ok-x.ensures.lawful c.in_ok-y.ensures.lawful c.cells_of-left.result c.cells_of-right.result c.cells_of-left.ensures c.cells_of-right.ensures in
-    made_2 p c.args.frame.now.slips.now t _ _ c.args.a c.args.b (calculated c.args.op) x y c.in_ok-x.ensures.is c.in_ok-y.ensures.is
+    made_2 p c.args.view.now.slips.now t _ _ c.args.a c.args.b (calculated c.args.op) x y c.in_ok-x.ensures.is c.in_ok-y.ensures.is
     (wrote_value p t (calculated c.args.op (value_from p.width t c.args.a x) (value_from p.width t c.args.b y)) form c.in_ok-form.ensures.is refl _ e c.start_of-to.result _ c.start_of-to.ensures _ c.calculate-worked.result c.calculate-worked.ensures
     c.in_ok-at_row.ensures)

@@ -1,30 +1,29 @@
-use Rattle.std.proofs.Common.{Bool, List, Ok, Result, refl, arith}
+use Rattle.std.proofs.Common.{Bool, List, [], Ok, Result, refl, arith}
 use Rattle.types.specs.declared.kinds.Kind.TheVariants.{Boolean}
 use Rattle.arithmetic.specs.declared.faults.ElementFault.{ElementFault}
 use Rattle.arithmetic.specs.Truths.{decided}
 use Rattle.elementwise.specs.Results.{map2}
 use Rattle.meaning.specs.Expressions.{decided_by}
-use Rattle.meaning.specs.States.{value_from}
+use Rattle.meaning.specs.States.{tables, value_from}
 use Rattle.meaning.proofs.Shells.{refused_2, made_2}
 use Rattle.meaning.proofs.Rows.{within_small}
 use Rattle.expressions.proofs.Pairing.{pair_elements, left_end, right_end}
 use Rattle.expressions.proofs.Writing.{value_made}
-use Rattle.tables.specs.Lent.{held}
 use Rattle.expressions.proofs.calculations.decide_row.Goals as goal
 
-pub returns-in_err-form-clause-made : goal.returns-in_err-form-clause-made
-returns-in_err-form-clause-made c =
-    refused_2 c.args.frame.now.place c.args.frame.now.slips.now (held c.args.frame.now.tables) c.from_residual-in_err-form.result c.in_err-form.field-0.0 c.from_residual-in_err-form.ensures.1
+pub returns-in_err-form : goal.returns-in_err-form
+returns-in_err-form c cs is =
+    refused_2 c.args.view.now.place c.args.view.now.slips.now (tables c.args.booleans.now cs is) c.from_residual-in_err-form.result c.in_err-form.field-0.0 c.from_residual-in_err-form.ensures.1
     c.args.a c.args.b (decided_by c.args.op) c.in_ok-x.x c.in_ok-y.y c.in_ok-x.ensures.is c.in_ok-y.ensures.is c.in_err-form.ensures.is
 
 pub overflow_mul-form : goal.overflow_mul-form
-overflow_mul-form c = let s = within_small c.args.frame.now.place.width c.in_ok-form.form c.in_ok-form.ensures.within in omega (arith, s.elements)
+overflow_mul-form c = let s = within_small c.args.view.now.place.width c.in_ok-form.form c.in_ok-form.ensures.within in omega (arith, s.elements)
 
 pub decide-requires : goal.decide-requires
 decide-requires c =
-    let p = c.args.frame.now.place in
+    let p = c.args.view.now.place in
     let f : List Bool → List Bool → Result (List Bool) ElementFault = λ xs ys. Ok (map2 (decided c.args.op) xs ys) in
-    let t = held c.args.frame.now.tables in
+    let t = tables c.args.booleans.now [] [] in
     let s = within_small p.width c.in_ok-form.form c.in_ok-form.ensures.within in
     let l = left_end p Boolean Boolean f t c.args.a c.args.b c.in_ok-x.x c.in_ok-y.y c.in_ok-form.form c.in_ok-form.ensures.is
     c.in_ok-x.ensures.lawful c.in_ok-y.ensures.lawful c.cells_of-left.result c.cells_of-right.result c.cells_of-left.ensures c.cells_of-right.ensures c.start_of-to.result c.start_of-to.ensures s.elements c.requires.left in
@@ -32,15 +31,15 @@ decide-requires c =
     c.in_ok-x.ensures.lawful c.in_ok-y.ensures.lawful c.cells_of-left.result c.cells_of-right.result c.cells_of-left.ensures c.cells_of-right.ensures c.start_of-to.result c.start_of-to.ensures s.elements c.requires.right in
     record { left = omega (arith, l); right = omega (arith, r); within = omega (arith, s.elements, c.start_of-to.ensures, c.requires.ample) }
 
-pub returns-clause-made : goal.returns-clause-made
-returns-clause-made c =
-    let p = c.args.frame.now.place in
+pub returns : goal.returns
+returns c cs is =
+    let p = c.args.view.now.place in
     let x = c.in_ok-x.x in
     let y = c.in_ok-y.y in
     let form = c.in_ok-form.form in
     let f : List Bool → List Bool → Result (List Bool) ElementFault = λ xs ys. Ok (map2 (decided c.args.op) xs ys) in
-    let t = held c.args.frame.now.tables in
+    let t = tables c.args.booleans.now cs is in
     let e = pair_elements p Boolean Boolean f t c.args.a c.args.b x y form c.in_ok-form.ensures.is
     c.in_ok-x.ensures.lawful c.in_ok-y.ensures.lawful c.cells_of-left.result c.cells_of-right.result c.cells_of-left.ensures c.cells_of-right.ensures in
-    made_2 p c.args.frame.now.slips.now t _ _ c.args.a c.args.b (decided_by c.args.op) x y c.in_ok-x.ensures.is c.in_ok-y.ensures.is
+    made_2 p c.args.view.now.slips.now t _ _ c.args.a c.args.b (decided_by c.args.op) x y c.in_ok-x.ensures.is c.in_ok-y.ensures.is
     (value_made p t (decided_by c.args.op (value_from p.width t c.args.a x) (value_from p.width t c.args.b y)) form c.in_ok-form.ensures.is refl _ c.start_of-to.result _ e c.start_of-to.ensures c.decide.ensures)

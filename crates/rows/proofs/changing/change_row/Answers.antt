@@ -1,13 +1,7 @@
 -- Each arm is one of the changes, in the whole state.
-use Rattle.std.proofs.Common.{◌≡◌, List, sym, subst}
 use Rattle.instruction.specs.declared.instructions.Change.TheVariants as change
-use Rattle.meaning.specs.declared.slips.Slip.{Slip}
-use Rattle.meaning.specs.Acts.{step}
-use Rattle.statements.specs.Frames.{state_of, inputting}
 use Rattle.rows.specs.States.{state_at}
 use Rattle.rows.proofs.Choosing.{by_change}
-use Rattle.tables.specs.Lent.{held}
-use Rattle.tables.proofs.Staying.{same_slips}
 use Rattle.rows.proofs.changing.change_row.Goals as goal
 
 pub returns-in-Declare-clause-does : goal.returns-in-Declare-clause-does
@@ -38,17 +32,16 @@ pub returns-in-Print-clause-does : goal.returns-in-Print-clause-does
 returns-in-Print-clause-does g c =
     let a = c.args in
     let here = state_at a.frame.now a.intake.now (g.S.Source.waiting a.source.now) a.output.now in
-    by_change a.frame.now.place a.head a.change (change.Print c.in-Print.a) here _ c.in-Print.is (c.print_row.ensures.row here)
+    by_change a.frame.now.place a.head a.change (change.Print c.in-Print.a) here _ c.in-Print.is (c.print_at.ensures.row here)
 
 pub returns-in-Read-clause-does : goal.returns-in-Read-clause-does
 returns-in-Read-clause-does g c =
     let a = c.args in
     let here = state_at a.frame.now a.intake.now (g.S.Source.waiting a.source.now) a.output.now in
-    by_change a.frame.now.place a.head a.change (change.Read c.in-Read.v) here _ c.in-Read.is (subst (λ (xs : List Slip). step c.read_row.result (state_of c.read_row.new.intake.taken c.read_row.new.intake.stream xs (held c.read_row.new.frame.tables) (g.S.Source.waiting c.read_row.new.source) a.output.now.bytes.now a.output.now.printed) ≡ inputting a.frame.now.place c.in-Read.v here)
-    (sym (same_slips a.frame.now c.read_row.new.frame c.read_row.ensures.stays)) (c.read_row.ensures.value here))
+    by_change a.frame.now.place a.head a.change (change.Read c.in-Read.v) here _ c.in-Read.is (c.read_row.ensures.value here)
 
 pub returns-in-Return-clause-does : goal.returns-in-Return-clause-does
 returns-in-Return-clause-does g c =
     let a = c.args in
     let here = state_at a.frame.now a.intake.now (g.S.Source.waiting a.source.now) a.output.now in
-    by_change a.frame.now.place a.head a.change (change.Return c.in-Return.a) here _ c.in-Return.is (c.return_row.ensures here here.tables)
+    by_change a.frame.now.place a.head a.change (change.Return c.in-Return.a) here _ c.in-Return.is (c.return_at.ensures here here.tables)

@@ -1,14 +1,14 @@
+use Rattle.std.proofs.Common.{refl}
 use Rattle.meaning.specs.Expressions.{by3}
 use Rattle.meaning.specs.Changes.{stored_at_two}
 use Rattle.meaning.specs.Plans.{with}
 use Rattle.meaning.specs.States.{holding, value_in}
 use Rattle.rows.proofs.Filling.{refilled}
 use Rattle.tables.specs.Lent.{held}
-use Rattle.tables.proofs.Staying.{same_slips}
 use Rattle.rows.proofs.variables.store_two.Goals as goal
 
 pub returns-clause-value : goal.returns-clause-value
 returns-clause-value c head s =
     let g = c.args in
     let t = held g.frame.now.tables in
-    refilled g.frame.now.place g.v (holding s g.frame.now.slips.now t) (with (value_in g.frame.now.place.width g.frame.now.slips.now t g.v) (λ x. by3 g.frame.now.place.width (value_in g.frame.now.place.width g.frame.now.slips.now t) g.b g.c g.d (stored_at_two x))) c.store_two_row-stored.result _ c.proceed.result c.store_two_row-stored.new.frame.slips.now c.store_two_row-stored.ensures.filled c.proceed.ensures (same_slips g.frame.now c.store_two_row-stored.new.frame c.store_two_row-stored.ensures.stays)
+    refilled g.frame.now.place g.v (holding s g.frame.now.slips.now t) (with (value_in g.frame.now.place.width g.frame.now.slips.now t g.v) (λ x. by3 g.frame.now.place.width (value_in g.frame.now.place.width g.frame.now.slips.now t) g.b g.c g.d (stored_at_two x))) c.store_two_row-stored.result _ c.proceed.result g.frame.now.slips.now c.store_two_row-stored.ensures.filled c.proceed.ensures refl

@@ -1,13 +1,9 @@
-use Rattle.std.proofs.Common.{◌<◌, List, length, set, sym, ap, ◌∙◌, subst}
-use Rattle.meaning.specs.declared.slips.Slip.{Slip}
-use Rattle.statements.specs.Frames.{settled_slip}
 use Rattle.meaning.specs.Expressions.{evaluated}
 use Rattle.meaning.specs.States.{value_in, holding}
 use Rattle.meaning.proofs.Within.{evaluated_within}
 use Rattle.statements.proofs.Settling.{settles}
 use Rattle.rows.proofs.Expressing.{told_within}
 use Rattle.tables.specs.Lent.{held}
-use Rattle.tables.proofs.Staying.{same_slips}
 use Rattle.rows.proofs.working.express.Goals as goal
 
 pub settle-requires : goal.settle-requires
@@ -16,7 +12,7 @@ settle-requires c =
     let t = held g.frame.now.tables in
     let at = value_in g.frame.now.place.width g.frame.now.slips.now t in
     record {
-      row = subst (λ (xs : List Slip). g.frame.now.place.row < length xs) (sym (same_slips g.frame.now c.evaluate-made.new.frame c.evaluate-made.ensures.stays)) c.requires.row;
+      row = c.requires.row;
       within = told_within g.frame.now.place (evaluated g.frame.now.place.width at g.stream g.expression) t _ c.evaluate-made.result (evaluated_within g.frame.now.place.width at g.stream g.expression) c.evaluate-made.ensures.made;
     }
 
@@ -25,4 +21,4 @@ returns-clause-value c s =
     let g = c.args in
     let t = held g.frame.now.tables in
     settles g.frame.now.place (holding s g.frame.now.slips.now t) (evaluated g.frame.now.place.width (value_in g.frame.now.place.width g.frame.now.slips.now t) g.stream g.expression) c.evaluate-made.result _ c.settle.result c.settle.new.slips c.evaluate-made.ensures.made c.settle.ensures.answer
-    (c.settle.ensures.slips ∙ ap (λ (xs : List Slip). set xs g.frame.now.place.row (settled_slip c.evaluate-made.result)) (same_slips g.frame.now c.evaluate-made.new.frame c.evaluate-made.ensures.stays))
+    c.settle.ensures.slips

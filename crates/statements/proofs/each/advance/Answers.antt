@@ -25,8 +25,8 @@ returns-then-not-is_ranged-clause-value c s =
     let g = c.args in
     each_stuck g.frame.now.place s g.frame.now.slips.now (held g.frame.now.tables) g.i g.a g.end g.n c.in_ok-x.x c.in_ok-x.ensures.is c.fault.result c.fault.ensures c.if-not-is_ranged.ensures
 
-pub list_at-list-requires : goal.list_at-list-requires
-list_at-list-requires c =
+pub list_in-list-requires : goal.list_in-list-requires
+list_in-list-requires c =
     let W = c.args.frame.now.place.width in
     let wide = ranged_wide W c.in_ok-x.x c.in_ok-x.ensures.lawful (sym c.if-not-is_ranged.ensures) in
     let u = under_all W c.args.a c.args.frame.now.place.row (omega arith) in
@@ -36,13 +36,13 @@ pub returns-then-not-is_orderly-clause-value : goal.returns-then-not-is_orderly-
 returns-then-not-is_orderly-clause-value c s =
     let g = c.args in
     each_disordered g.frame.now.place s g.frame.now.slips.now (held g.frame.now.tables) g.i g.a g.end g.n c.in_ok-x.x c.in_ok-x.ensures.is
-    c.in_ok-x.ensures.lawful c.if-not-is_ranged.ensures c.list_at-list.result c.list_at-list.ensures c.fault-then-not-is_orderly.result c.fault-then-not-is_orderly.ensures c.if-not-is_orderly.ensures
+    c.in_ok-x.ensures.lawful c.if-not-is_ranged.ensures c.list_in-list.result c.list_in-list.ensures c.fault-then-not-is_orderly.result c.fault-then-not-is_orderly.ensures c.if-not-is_orderly.ensures
 
 pub returns-then-n-count-clause-value : goal.returns-then-n-count-clause-value
 returns-then-n-count-clause-value c s =
     let g = c.args in
     each_over g.frame.now.place s g.frame.now.slips.now (held g.frame.now.tables) g.i g.a g.end g.n c.in_ok-x.x c.in_ok-x.ensures.is
-    c.in_ok-x.ensures.lawful c.if-not-is_ranged.ensures c.list_at-list.result c.list_at-list.ensures c.if-not-is_orderly.ensures
+    c.in_ok-x.ensures.lawful c.if-not-is_ranged.ensures c.list_in-list.result c.list_in-list.ensures c.if-not-is_orderly.ensures
     (subst (λ (m : ℕ). m ≤ g.n) c.count.ensures c.if-n-count.true) _ (ap (set g.frame.now.slips.now g.i) c.blank.ensures)
 
 pub put_element-requires : goal.put_element-requires
@@ -55,7 +55,7 @@ put_element-requires c =
     let u = under_all W g.a g.i c.requires.domain in
     let last = room_at W g.i g.frame.now.place.row c.requires.upto in
     record {
-      below = element_below W g.frame.now.tables.integers.now g.a g.n c.in_ok-x.x c.in_ok-x.ensures.lawful c.list_at-list.result c.list_at-list.ensures c.start_of-to.result lt (omega (arith, u, start));
+      below = element_below W g.frame.now.tables.integers.now g.a g.n c.in_ok-x.x c.in_ok-x.ensures.lawful c.list_in-list.result c.list_in-list.ensures c.start_of-to.result lt (omega (arith, u, start));
       within = reach c.args.frame.now.tables c.requires.ample (omega (arith, wide, last, start));
     }
 
@@ -67,5 +67,5 @@ returns-clause-value c s =
     let u = under_all W g.a g.frame.now.place.row (omega arith) in
     let t = held g.frame.now.tables in
     each_takes g.frame.now.place s g.frame.now.slips.now t g.i g.a g.end g.n c.in_ok-x.x c.in_ok-x.ensures.is
-    c.in_ok-x.ensures.lawful c.if-not-is_ranged.ensures c.list_at-list.result c.list_at-list.ensures c.if-not-is_orderly.ensures
+    c.in_ok-x.ensures.lawful c.if-not-is_ranged.ensures c.list_in-list.result c.list_in-list.ensures c.if-not-is_orderly.ensures
     lt (long_enough g.frame.now.place g.a t c.requires.ample u) c.start_of-to.result c.start_of-to.ensures _ (ap (set g.frame.now.slips.now g.i) (c.new.ensures ∙ ap (λ (f : Layout). slip_of f g.n) c.scalar.ensures)) _ c.put_element.ensures.value
