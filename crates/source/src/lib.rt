@@ -12,9 +12,9 @@ mod state;
 mod text;
 mod words;
 
-pub use crate::reader::Readable;
+pub use crate::reader::{Readable, read_value};
 pub use crate::recorder::Recorder;
 pub use crate::refusal::SourceRefusal;
 pub use crate::source::Source;
-pub use crate::state::{Misread, StreamState};
+pub use crate::state::{Misread, ReadValue, StreamState};
 pub use crate::text::Text;

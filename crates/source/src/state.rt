@@ -1,6 +1,6 @@
-//! Why a read tells no value, and the state in which a read leaves the stream.
+//! Why a read tells no value, the state in which a read leaves the stream, and what a sheet sees of both.
 ghost use Rattle.std.specs.Prelude.{◌≡◌, Some};
-ghost use Rattle.source.specs.States.{state_number, state_of, misread_text};
+ghost use Rattle.source.specs.States.{state_number, state_of, misread_text, good, bad_word, ended};
 
 use std::error::Error;
 use std::fmt;
@@ -56,6 +56,47 @@ impl<T> From<&Result<T, Misread>> for StreamState {
             Ok(_) => StreamState::Good,
             Err(Misread::BadWord) => StreamState::BadWord,
             Err(Misread::Ended) => StreamState::Ended,
+        }
+    }
+}
+
+/// What a sheet sees of a read. Unless the state is good, the value is the null of its kind.
+#[derive(Clone, Copy, PartialEq, Eq, Debug)]
+pub struct ReadValue<T> {
+    /// What was read, or the null.
+    pub value: T,
+    /// How the read went.
+    pub state: StreamState,
+}
+
+impl<T> ReadValue<T> {
+    /// A value that was read.
+    pub fn good(value: T) -> ReadValue<T>
+        ensures { result ≡ good value }
+    {
+        ReadValue {
+            value,
+            state: StreamState::Good,
+        }
+    }
+
+    /// The null, for a word that writes no value.
+    pub fn bad_word(null: T) -> ReadValue<T>
+        ensures { result ≡ bad_word null }
+    {
+        ReadValue {
+            value: null,
+            state: StreamState::BadWord,
+        }
+    }
+
+    /// The null, for want of a word.
+    pub fn ended(null: T) -> ReadValue<T>
+        ensures { result ≡ ended null }
+    {
+        ReadValue {
+            value: null,
+            state: StreamState::Ended,
         }
     }
 }

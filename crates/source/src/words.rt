@@ -1,5 +1,5 @@
 //! Blanks and words at the front of a source.
-ghost use Rattle.std.specs.Prelude.{◌≡◌, ℕ, List, fold, Result};
+ghost use Rattle.std.specs.Prelude.{◌≡◌, ℕ, ◌+◌, List, length, fold, Result};
 ghost use Rattle.source.specs.Taking.{Took};
 ghost use Rattle.source.specs.Wanted.{NextIf};
 ghost use Rattle.source.specs.Words.{blank, after_blanks, run, after_run, word, rest, Parted};
@@ -48,53 +48,53 @@ fn is_blank(byte: u8) -> bool
     matches!(byte, b' ' | b'\t' | b'\n' | b'\r')
 }
 
-/// Takes and counts the first byte that waits, if there is one and it is `wanted`.
-pub fn next_if<S: Source, F: FnOnce(u8) -> bool>(
-    s: &mut S,
-    taken: &mut u32,
-    wanted: F,
-) -> Option<u8>
+/// Takes the first byte that waits, if there is one and it is `wanted`.
+fn next_if<S: Source, F: FnOnce(u8) -> bool>(s: &mut S, wanted: F) -> Option<u8>
     requires { F.IsAlwaysCallable wanted }
-    ensures next { NextIf (F.post wanted) (S.waiting s.old) result (S.waiting s.new) }
-    ensures took { Took (S.waiting s.old) (S.waiting s.new) taken.old taken.new }
+    ensures { NextIf (F.post wanted) (S.waiting s.old) result (S.waiting s.new) }
 {
-    let next = s.peek().filter(|byte| wanted(*byte));
-    if next.is_some() {
-        let _ = s.take();
-    }
-    *taken = taken.saturating_add(u32::from(next.is_some()));
-    next
+    let byte = s.peek().filter(|byte| wanted(*byte))?;
+    let _ = s.take();
+    Some(byte)
 }
 
-/// Takes the blanks in front.
-fn skip_blanks<S: Source>(s: &mut S, taken: &mut u32)
+/// Takes the blanks in front, and tells how many there were.
+fn skip_blanks<S: Source>(s: &mut S) -> u32
     ensures waits { S.waiting s.new ≡ after_blanks (S.waiting s.old) }
-    ensures took { Took (S.waiting s.old) (S.waiting s.new) taken.old taken.new }
+    ensures count { result + length (S.waiting s.new) ≡ length (S.waiting s.old) }
 {
-    while let Some(_) = next_if(s, taken, is_blank) {}
+    let mut count = 0;
+    while let Some(_) = next_if(s, is_blank) {
+        count += 1;
+    }
+    count
 }
 
-/// Takes the bytes before the next blank, which go into a scanner.
-fn scan_run<S: Source, C: Scanner>(s: &mut S, taken: &mut u32) -> C
-    ensures value { result ≡ fold C.after C.empty (run (S.waiting s.old)) }
+/// Takes the bytes before the next blank, which go into a scanner, and tells how many there were.
+fn scan_run<S: Source, C: Scanner>(s: &mut S) -> (C, u32)
+    ensures value { result.0 ≡ fold C.after C.empty (run (S.waiting s.old)) }
     ensures waits { S.waiting s.new ≡ after_run (S.waiting s.old) }
-    ensures took { Took (S.waiting s.old) (S.waiting s.new) taken.old taken.new }
+    ensures count { result.1 + length (S.waiting s.new) ≡ length (S.waiting s.old) }
 {
     let mut scanner = C::empty_word();
-    while let Some(byte) = next_if(s, taken, |byte| !is_blank(byte)) {
+    let mut count = 0;
+    while let Some(byte) = next_if(s, |byte| !is_blank(byte)) {
         scanner = scanner.push(byte);
+        count += 1;
     }
-    scanner
+    (scanner, count)
 }
 
 /// Takes blanks and the next word, tells what the word writes, and leaves the byte after it.
-#[tactic(auto, using(crate::proofs::Cuts::parts))]
+#[tactic(auto, using(crate::proofs::Cuts::parts, crate::proofs::Cuts::from_front))]
 pub fn read_word<S: Source, C: Scanner>(s: &mut S, taken: &mut u32) -> Result<C::Value, Misread>
     ensures told { result ≡ C.told (word (S.waiting s.old)) }
     ensures waits { S.waiting s.new ≡ rest (S.waiting s.old) }
     ensures parts { Parted (S.waiting s.old) (S.waiting s.new) }
     ensures took { Took (S.waiting s.old) (S.waiting s.new) taken.old taken.new }
 {
-    skip_blanks(s, taken);
-    scan_run::<S, C>(s, taken).finish()
+    let blanks = skip_blanks(s);
+    let (scanner, letters) = scan_run::<S, C>(s);
+    *taken = taken.saturating_add(blanks + letters);
+    scanner.finish()
 }

@@ -1,18 +1,18 @@
 //! Lines of the table: what a read tells of a text, how many bytes it takes, and what waits next.
-use source::{Misread, Readable, Source, SourceRefusal, StreamState, Text};
+use source::{ReadValue, Readable, Source, SourceRefusal, Text, read_value};
 use std::fmt::Display;
 use std::io;
 
-/// Prints one read, with its case's name. A value that is not read shows as the null of its kind.
-pub(crate) fn show<T: Display + Default + Drop, S: Source>(
+/// Prints one read, with its case's name.
+pub(crate) fn show<T: Display + Drop, S: Source>(
     rt: &HostRuntime,
     name: &str,
-    read: Result<T, Misread>,
+    read: ReadValue<T>,
     taken: u32,
     s: &S,
 ) -> io::Result<()> {
-    let state = StreamState::from(&read).number();
-    let value = read.unwrap_or_default();
+    let ReadValue { value, state } = read;
+    let state = state.number();
     print!(rt; "{name}: {value}, state {state}, taken {taken}, next ")?;
     match s.peek() {
         Some(byte) => println!(rt; "{byte}"),
@@ -21,7 +21,7 @@ pub(crate) fn show<T: Display + Default + Drop, S: Source>(
 }
 
 /// Reads one value of a text from its front, and prints how that went.
-pub(crate) fn trial<T: Readable + Display + Default + Drop>(
+pub(crate) fn trial<T: Readable + Display + Drop>(
     rt: &HostRuntime,
     name: &str,
     bytes: &[u8],
@@ -33,13 +33,13 @@ pub(crate) fn trial<T: Readable + Display + Default + Drop>(
 }
 
 /// Reads one value where the last read left off, and prints how that went.
-pub(crate) fn turn<T: Readable + Display + Default + Drop, S: Source>(
+pub(crate) fn turn<T: Readable + Display + Drop, S: Source>(
     rt: &HostRuntime,
     name: &str,
     s: &mut S,
     taken: &mut u32,
 ) -> io::Result<()> {
-    let read = T::read(s, taken);
+    let read = read_value::<T, S>(s, taken);
     show(rt, name, read, *taken, s)
 }
 

@@ -70,7 +70,7 @@ const CHARACTERS: [Case; 8] = [
 ];
 
 /// Each case of a table read once.
-fn trials<T: Readable + Display + Default + Drop>(
+fn trials<T: Readable + Display + Drop>(
     rt: &HostRuntime,
     title: &str,
     cases: &[Case],
