@@ -25,7 +25,8 @@ use Rattle.meaning.specs.Plans.{Outcome, gives, faults, outcome, with}
 use Rattle.meaning.specs.Expressions.{in_order, count, by1, by2, by3, evaluated}
 use Rattle.meaning.specs.Changes.{nulls, declared, assigned, stored_at, stored_at_two}
 use Rattle.meaning.specs.Texts.{text}
-use Rattle.meaning.specs.Reading.{ReadValue, reading, unread}
+use Rattle.source.specs.declared.state.ReadValue.{ReadValue}
+use Rattle.meaning.specs.Reading.{reading, unread}
 use Rattle.meaning.specs.States.{State, slip_at, value_at, holding, taking, refilled, blanked, printing, streaming, blank_slip, FreeAt}
 
 -- where the sheet goes on, or the row's fault

@@ -1,5 +1,6 @@
 -- The states of the stream by number, in which state a read leaves it, what is seen in each, and a misread in words.
 use Rattle.std.specs.Prelude.{ℕ, List, Result, Ok, Err, codes}
+use Rattle.std.specs.Result.{result_unwrap_or}
 use Rattle.source.specs.declared.state.Misread.{Misread}
 use Rattle.source.specs.declared.state.Misread.TheVariants.{BadWord as Unread, Ended as Missing}
 use Rattle.source.specs.declared.state.ReadValue.{ReadValue}
@@ -31,6 +32,4 @@ ended null = record { value = null; state = Ended }
 
 -- the null of the kind stands for a value that is not read
 abbrev pub seen : {T : Type 0} → T → Result T Misread → ReadValue T
-seen null (Ok v) = good v
-seen null (Err Unread) = bad_word null
-seen null (Err Missing) = ended null
+seen null r = record { value = result_unwrap_or r null; state = state_of r }
