@@ -1,6 +1,10 @@
--- A test of each element against one value.
-use Rattle.std.proofs.Common.{◌≡◌, ℕ, Bool, List, [], ◌∷◌, length, replicate, Decides, refl, subst}
+-- Tests of runs of cells against each other, and of each element against one value.
+use Rattle.std.proofs.Common.{◌≡◌, ℕ, ◌+◌, ◌-◌, Bool, List, [], ◌∷◌, length, take, drop, replicate, Decides, refl, subst}
 use Rattle.std.specs.List.{list_all}
+use Rattle.std.specs.Cmp.Lexicographic.{pointwise}
+use Rattle.std.proofs.lemmas.Slice.Eq.{slice_eq-Decides}
+use Rattle.element.specs.Cells.{cells}
+use Rattle.element.proofs.Writes.{part_cells}
 use Rattle.std.specs.Cmp.{first_so, second_so}
 
 module _ {X : Type 0} {E : X → X → Bool} (d : (x y : X) → Decides (E x y) (x ≡ y)) (v : X) where
@@ -13,3 +17,7 @@ module _ {X : Type 0} {E : X → X → Bool} (d : (x y : X) → Decides (E x y) 
 
   pub all_one : (xs : List X) (n : ℕ) → length xs ≡ n → Decides (list_all (λ x. E x v) xs) (xs ≡ replicate n v)
   all_one xs n e = subst (λ (k : ℕ). Decides (list_all (λ x. E x v) xs) (xs ≡ replicate k v)) e (same_throughout xs)
+
+-- the parts `table[a..a + n]` and `table[b..b + n]`, as `==` compares them
+pub same_parts : {X : Type 0} {E : X → X → Bool} (d : (x y : X) → Decides (E x y) (x ≡ y)) (T : List X) (a b n : ℕ) (r : Bool) → r ≡ pointwise E (take (a + n - a) (drop a T)) (take (b + n - b) (drop b T)) → Decides r (cells T a n ≡ cells T b n)
+same_parts d T a b n r e = simp part_cells at (slice_eq-Decides d _ _ _ e)

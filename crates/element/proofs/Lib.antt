@@ -1,4 +1,5 @@
 pub mod Writes
+pub mod Digits
 pub mod Stepping
 pub mod Lines
 pub mod Comparing

@@ -6,8 +6,7 @@ use Rattle.std.proofs.lemmas.Slice.{put_mid-paste}
 use Rattle.std.proofs.lemmas.List.Edits.{paste_none, paste_all, paste_more, paste-paste, drop-paste, length-paste}
 use Rattle.std.proofs.lemmas.List.{get_or-take, length-append, length-take-le, length-take, length-drop, length-replicate, get_or-drop, take-append-le, take-take, drop-take, drop-drop, take_all, drop_all, append-nil}
 use Rattle.std.proofs.lemmas.Bool.{cases_lt}
-use Rattle.std.proofs.lemmas.List.FromFn.{length-map-range_with_len, get_or-map-range_with_len}
-use Rattle.element.specs.Cells.{put, cells, tabulate, padded}
+use Rattle.element.specs.Cells.{put, cells, padded}
 
 module _ {X : Type 0} (T : List X) (to : ℕ) (R : List X) where
   -- what lies below `to` is as it was

@@ -5,6 +5,7 @@ ghost use Rattle.element.specs.Cells.{cells};
 use crate::elements::Element;
 
 /// Whether the n cells from `a` on hold what the n cells from `b` on hold.
+#[tactic(auto, using(crate::proofs::Comparing::same_parts))]
 pub fn equal<E: Element>(table: &[E], a: usize, b: usize, n: usize) -> bool
     requires left { a + n ≤ length table.now }
     requires right { b + n ≤ length table.now }

@@ -5,8 +5,8 @@ ghost use Rattle.types.specs.declared.kinds.Kind.TheVariants.{Integer};
 ghost use Rattle.element.specs.Elements.{integer_text};
 ghost use Rattle.element.specs.Brief.{integer_brief};
 
+use crate::decimals::{digit_count, write_decimal};
 use crate::elements::Element;
-use itoa::Buffer;
 use types::Kind;
 
 impl Element for i32 {
@@ -35,15 +35,16 @@ impl Element for i32 {
     ghost brief = { integer_brief };
 
     fn text_len(self) -> usize {
-        let mut digits = Buffer::new();
-        digits.format(self).len()
+        let digits = digit_count(self.unsigned_abs());
+        if self < 0 { digits + 1 } else { digits }
     }
 
     fn write_text(self, output: &mut [u8], at: usize) -> usize {
-        let mut digits = Buffer::new();
-        let text = digits.format(self).as_bytes();
-        let end = at + text.len();
-        output[at..end].copy_from_slice(text);
-        end
+        if self < 0 {
+            output[at] = b'-';
+            write_decimal(self.unsigned_abs(), output, at + 1)
+        } else {
+            write_decimal(self.unsigned_abs(), output, at)
+        }
     }
 }

@@ -4,6 +4,7 @@
 mod booleans;
 pub mod cells;
 mod characters;
+mod decimals;
 pub mod elements;
 pub mod equality;
 mod integers;
