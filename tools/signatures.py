@@ -45,7 +45,7 @@ SUCCESSORS = [
     (r'^sheet .* Head numbers', '`HeadNumbers::from`'),
     (r'^source src/(letter|numeral)', '`tells` of `Scanner`, which `read_word` gives'),
     (r'^source src/line', '`Source` for `Line` (`peek`, `take`) and `push_decimal`'),
-    (r'^source src/reader', '`read` of `Readable` for `i32`, `bool`, `i8`'),
+    (r'^source src/reader', '`read_value`, which cannot fail either, over `read` of `Readable` for `i32`, `bool`, `i8`'),
     (r'^source src/(recorder|text)', '`new`, `peek` and `take` of the source'),
     (r'^source src/state', '`Ok`, `Err(Misread::BadWord)`, `Err(Misread::Ended)`'),
     (r'^source .* scan_word', '`read_word`'),
@@ -58,7 +58,7 @@ SUCCESSORS = [
     (r'^types src/kinds.rt Size', '`sizes::size_number`, `sizes::size_from`'),
     (r'^types src/sizes.rt Size (is_exactly|is_known|or_else)', '`== Some(n)`, `is_some`, `or` of the option'),
     (r'^types src/sizes.rt Size', 'the function of that name in `types::sizes` (agrees: `agree`)'),
-    (r'^words .*write_byte', "std's `escape_ascii`"),
+    (r'^words .*write_byte', "std's `escape_ascii`, and for what is not printed its number at once"),
     (r'^words .*KindWords', '`kind_word`'),
     (r'^words .*(combination|comparison)', '`infix` of that file'),
 ]
@@ -74,8 +74,6 @@ DEFINITIONS = [
      'the variants `Run` and `Scalar`'),
     ('`picks` `values_of`, `value_place`',
      '`along`, `place_of` of `element/specs/Operands.antt`'),
-    ('`source` `good`, `bad_word`, `ended`',
-     '`Ok v`, `Err BadWord`, `Err Ended`; the state is `state_of`'),
     ('`source` `going`',
      '`recorded`, without it: the readings that are left are a slice'),
 ]
@@ -129,6 +127,7 @@ ELSEWHERE = {
     ('changes', 'read_above'): 'nothing needs it: a store no longer loops over its cells by hand in `changes`',
     ('checker', 'never'): '`never` of `meaning/proofs/Shells.antt`, of any two tests; in `checker` the check finds it',
     ('elementwise', 'row_below'): '`row_below` of `element/proofs/Lines.antt`',
+    ('source', 'says'): '`says` of `source/specs/BooleanWords.antt`',
     ('laws', 'never'): '`never` of `meaning/proofs/Shells.antt`',
 }
 
