@@ -124,8 +124,8 @@ MEMBERS = {
 # Lemmas of a crate that stand in another one, in these or stronger words.
 ELSEWHERE = {
     ('changes', 'along_cells'): '`along_cells` of `expressions/proofs/Pairing.antt`',
-    ('changes', 'read_above'): 'nothing needs it: a store no longer loops over its cells by hand in `changes`',
-    ('checker', 'never'): '`never` of `meaning/proofs/Shells.antt`, of any two tests; in `checker` the check finds it',
+    ('changes', 'read_above'): 'nothing needs it: the loop that it served went with `copy_down`',
+    ('checker', 'never'): 'the check finds alone what it closed',
     ('elementwise', 'row_below'): '`row_below` of `element/proofs/Lines.antt`',
     ('source', 'says'): '`says` of `source/specs/BooleanWords.antt`',
     ('laws', 'never'): '`never` of `meaning/proofs/Shells.antt`',
