@@ -36,13 +36,7 @@ fn pair_layout(kind: Kind, x: Layout, y: Layout) -> Layout
 }
 
 /// The layout of what two values of one kind give, element by element, as elements of kind `to`.
-pub(crate) fn guard_pair(
-    place: Place,
-    kind: Kind,
-    to: Kind,
-    x: Layout,
-    y: Layout,
-) -> Result<Layout, Fault>
+pub fn guard_pair(place: Place, kind: Kind, to: Kind, x: Layout, y: Layout) -> Result<Layout, Fault>
     ensures is { result ≡ pair_guard place kind to x y }
     ensures within { IfOk result (λ f. within place.width f.r f.s ≡ true) }
 {

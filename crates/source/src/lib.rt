@@ -12,7 +12,7 @@ mod state;
 mod text;
 mod words;
 
-pub use crate::reader::{Readable, read_value};
+pub use crate::reader::{Readable, WithNull, read_value};
 pub use crate::recorder::Recorder;
 pub use crate::refusal::SourceRefusal;
 pub use crate::source::Source;

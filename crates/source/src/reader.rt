@@ -17,11 +17,6 @@ use crate::words::read_word;
 
 /// A value that is read from the front of what waits.
 pub trait Readable: Sized {
-    /// The null of the kind: what is seen where no value is read.
-    const ABSENT: Self;
-
-    ghost ABSENT: { Self };
-
     // What is read of the bytes that wait.
     ghost read_of: { List ℕ → Result Self Misreads };
 
@@ -39,12 +34,16 @@ pub trait Readable: Sized {
         ensures took { Took (S.waiting source.old) (S.waiting source.new) taken.old taken.new };
 }
 
+/// A readable value whose kind has a null.
+pub trait WithNull: Readable {
+    /// The null of the kind: what is seen where no value is read.
+    const ABSENT: Self;
+
+    ghost ABSENT: { Self };
+}
+
 /// The next word as an integer: a sign or none, and digits, within 32 bits.
 impl Readable for i32 {
-    const ABSENT: i32 = 0;
-
-    ghost ABSENT = { pos 0 };
-
     ghost read_of = { integer_read };
 
     ghost left_by = { rest };
@@ -58,10 +57,6 @@ impl Readable for i32 {
 
 /// The next word as a boolean, `T` or `F`.
 impl Readable for bool {
-    const ABSENT: bool = false;
-
-    ghost ABSENT = { false };
-
     ghost read_of = { boolean_read };
 
     ghost left_by = { rest };
@@ -75,10 +70,6 @@ impl Readable for bool {
 
 /// The next byte, blank or not, as a signed number; at the end -1, which is no misread.
 impl Readable for i8 {
-    const ABSENT: i8 = 0;
-
-    ghost ABSENT = { pos 0 };
-
     ghost read_of = { character_read };
 
     ghost left_by = { behind };
@@ -92,8 +83,26 @@ impl Readable for i8 {
     }
 }
 
+impl WithNull for i32 {
+    const ABSENT: i32 = 0;
+
+    ghost ABSENT = { pos 0 };
+}
+
+impl WithNull for bool {
+    const ABSENT: bool = false;
+
+    ghost ABSENT = { false };
+}
+
+impl WithNull for i8 {
+    const ABSENT: i8 = 0;
+
+    ghost ABSENT = { pos 0 };
+}
+
 /// Reads a value as a sheet sees it, which can't fail: the null of the kind where no value is read, and the state in which the stream is left.
-pub fn read_value<T: Readable, S: Source>(source: &mut S, taken: &mut u32) -> ReadValue<T>
+pub fn read_value<T: WithNull, S: Source>(source: &mut S, taken: &mut u32) -> ReadValue<T>
     ensures told { result ≡ seen T.ABSENT (T.read_of (S.waiting source.old)) }
     ensures waits { S.waiting source.new ≡ T.left_by (S.waiting source.old) }
     ensures parts { T.parted (S.waiting source.old) (S.waiting source.new) }

@@ -61,6 +61,7 @@ fn next_if<S: Source, F: FnOnce(u8) -> bool>(s: &mut S, wanted: F) -> Option<u8>
 /// Takes the blanks in front, and tells how many there were.
 fn skip_blanks<S: Source>(s: &mut S) -> u32
     ensures waits { S.waiting s.new ≡ after_blanks (S.waiting s.old) }
+    ensures took { Took (S.waiting s.old) (S.waiting s.new) 0 result }
     ensures count { result + length (S.waiting s.new) ≡ length (S.waiting s.old) }
 {
     let mut count = 0;
@@ -74,6 +75,7 @@ fn skip_blanks<S: Source>(s: &mut S) -> u32
 fn scan_run<S: Source, C: Scanner>(s: &mut S) -> (C, u32)
     ensures value { result.0 ≡ fold C.after C.empty (run (S.waiting s.old)) }
     ensures waits { S.waiting s.new ≡ after_run (S.waiting s.old) }
+    ensures took { Took (S.waiting s.old) (S.waiting s.new) 0 result.1 }
     ensures count { result.1 + length (S.waiting s.new) ≡ length (S.waiting s.old) }
 {
     let mut scanner = C::empty_word();

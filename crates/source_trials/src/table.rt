@@ -1,5 +1,5 @@
 //! Lines of the table: what a read tells of a text, how many bytes it takes, and what waits next.
-use source::{ReadValue, Readable, Source, SourceRefusal, Text, read_value};
+use source::{ReadValue, Source, SourceRefusal, Text, WithNull, read_value};
 use std::fmt::Display;
 use std::io;
 
@@ -21,7 +21,7 @@ pub(crate) fn show<T: Display + Drop, S: Source>(
 }
 
 /// Reads one value of a text from its front, and prints how that went.
-pub(crate) fn trial<T: Readable + Display + Drop>(
+pub(crate) fn trial<T: WithNull + Display + Drop>(
     rt: &HostRuntime,
     name: &str,
     bytes: &[u8],
@@ -33,7 +33,7 @@ pub(crate) fn trial<T: Readable + Display + Drop>(
 }
 
 /// Reads one value where the last read left off, and prints how that went.
-pub(crate) fn turn<T: Readable + Display + Drop, S: Source>(
+pub(crate) fn turn<T: WithNull + Display + Drop, S: Source>(
     rt: &HostRuntime,
     name: &str,
     s: &mut S,

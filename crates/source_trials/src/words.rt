@@ -1,6 +1,6 @@
 //! The cases that are one word or one byte.
 use crate::table::trial;
-use source::Readable;
+use source::WithNull;
 use std::fmt::Display;
 use std::io;
 
@@ -70,7 +70,7 @@ const CHARACTERS: [Case; 8] = [
 ];
 
 /// Each case of a table read once.
-fn trials<T: Readable + Display + Drop>(
+fn trials<T: WithNull + Display + Drop>(
     rt: &HostRuntime,
     title: &str,
     cases: &[Case],

@@ -5,3 +5,4 @@ pub mod Same
 pub mod Shaping
 pub mod Streaming
 pub mod Reaching
+pub mod Staying
